@@ -22,12 +22,12 @@ pub record AnswersWithin {F : Type 0} (may_write : Name → Bool) (ghosts : Ghos
 
 -- an act that may write what a delivery may
 abbrev pub AnswersAct : {F : Type 0} → Ghosts F → (Name → Type 0) → (Name → Type 0) → F → F → Result (List Put × Reply) PartError → Type 0
-AnswersAct told MayRead IsBad old new result = AnswersWithin is_beside_mark told MayRead IsBad old new result
+AnswersAct ghosts MayRead IsBad old new result = AnswersWithin is_beside_mark ghosts MayRead IsBad old new result
 
 -- one that posts, or does what a moderator answers
 abbrev pub AnswersPost : {F : Type 0} → Ghosts F → (Name → Type 0) → (Name → Type 0) → F → F → Result (List Put × Reply) PartError → Type 0
-AnswersPost told MayRead IsBad old new result = AnswersWithin is_of_posting told MayRead IsBad old new result
+AnswersPost ghosts MayRead IsBad old new result = AnswersWithin is_of_posting ghosts MayRead IsBad old new result
 
 -- a timed run
 abbrev pub AnswersTimed : {F : Type 0} → Ghosts F → (Name → Type 0) → (Name → Type 0) → F → F → Result (List Put × Reply) PartError → Type 0
-AnswersTimed told MayRead IsBad old new result = AnswersWithin is_of_time told MayRead IsBad old new result
+AnswersTimed ghosts MayRead IsBad old new result = AnswersWithin is_of_time ghosts MayRead IsBad old new result

@@ -19,14 +19,14 @@ longest_message = 33_554_432
 -- The clock was read, then the input, and the delivery of it answered. Or the clock failed, and the input wasn't read; or the input failed, or
 -- is too long. Then a stop line says so.
 abbrev pub Delivers : {I S K : Type 0} → SourceGhosts I → Ghosts S → ClockGhosts K → ℕ → Text → Text → I → I → S → S → K → K → ℕ → Type 0
-Delivers source told clocks number sender recipient input next old new clock after status =
-    ((message : Text) × IsInput source longest_message input next message × AnswersNow clocks told number (acts.Deliver sender recipient message) clock old new status)
-    ⊎ ((Says told old new status None whys.Clock × Rose (clocks.faults clock) (clocks.faults after) × (next ≡ input))
-    ⊎ ((Says told old new status None whys.Input × Rose (source.faults input) (source.faults next) × ReadsAtMost source longest_message input next)
-    ⊎ (Says told old new status None whys.Long × IsTooLong source longest_message input next)))
+Delivers source ghosts clocks number sender recipient input next old new clock after status =
+    ((message : Text) × IsInput source longest_message input next message × AnswersNow clocks ghosts number (acts.Deliver sender recipient message) clock old new status)
+    ⊎ ((Says ghosts old new status None whys.Clock × Rose (clocks.faults clock) (clocks.faults after) × (next ≡ input))
+    ⊎ ((Says ghosts old new status None whys.Input × Rose (source.faults input) (source.faults next) × ReadsAtMost source longest_message input next)
+    ⊎ (Says ghosts old new status None whys.Long × IsTooLong source longest_message input next)))
 
 -- the same at a moment that was read
 abbrev pub DeliversAt : {I S : Type 0} → SourceGhosts I → Ghosts S → ℕ → ℕ → Text → Text → I → I → S → S → ℕ → Type 0
-DeliversAt source told number moment sender recipient input next old new status =
-    ((message : Text) × IsInput source longest_message input next message × AnswersItem told (record { number = number; moment = moment; act = acts.Deliver sender recipient message }) old new status)
-    ⊎ ((why : Why) × HasNoInput source longest_message input next why × Says told old new status None why)
+DeliversAt source ghosts number moment sender recipient input next old new status =
+    ((message : Text) × IsInput source longest_message input next message × AnswersItem ghosts (record { number = number; moment = moment; act = acts.Deliver sender recipient message }) old new status)
+    ⊎ ((why : Why) × HasNoInput source longest_message input next why × Says ghosts old new status None why)

@@ -44,9 +44,9 @@ HasNoQuestion source limit made input next _ = ⊥
 
 -- The input was read at this moment, and its question answered. Or there is no question, and a stop line says so, without a call on the disk.
 abbrev pub AsksAt : {I S : Type 0} → SourceGhosts I → Ghosts S → InputQuestion → ℕ → I → I → S → S → ℕ → Type 0
-AsksAt source told asked moment input next old new status =
-    ((question : asked.Question) × IsQuestion source asked.limit (asked.made moment) input next question × GivesAnswer told (asked.meaning question) old new status)
-    ⊎ ((why : Why) × HasNoQuestion source asked.limit (asked.made moment) input next why × Says told old new status None why)
+AsksAt source ghosts asked moment input next old new status =
+    ((question : asked.Question) × IsQuestion source asked.limit (asked.made moment) input next question × GivesAnswer ghosts (asked.meaning question) old new status)
+    ⊎ ((why : Why) × HasNoQuestion source asked.limit (asked.made moment) input next why × Says ghosts old new status None why)
 
 -- the moment of a question: the one that the clock shows, if that is told, or 0 if no clock is read
 abbrev pub IsMomentOf : {K : Type 0} → ClockGhosts K → Bool → K → ℕ → Type 0
@@ -56,9 +56,9 @@ IsMomentOf clocks false clock moment = moment ≡ 0
 -- The clock was read if it is wanted, then the input, and its question answered. Or the clock failed, and the input wasn't read; a stop
 -- line says so, without a call on the disk.
 abbrev pub Asks : {I S K : Type 0} → SourceGhosts I → Ghosts S → ClockGhosts K → InputQuestion → I → I → S → S → K → K → ℕ → Type 0
-Asks source told clocks asked input next old new clock after status =
-    ((moment : ℕ) × IsMomentOf clocks asked.timed clock moment × AsksAt source told asked moment input next old new status)
-    ⊎ (IsTrue asked.timed × Says told old new status None whys.Clock × Rose (clocks.faults clock) (clocks.faults after) × (next ≡ input))
+Asks source ghosts clocks asked input next old new clock after status =
+    ((moment : ℕ) × IsMomentOf clocks asked.timed clock moment × AsksAt source ghosts asked moment input next old new status)
+    ⊎ (IsTrue asked.timed × Says ghosts old new status None whys.Clock × Rose (clocks.faults clock) (clocks.faults after) × (next ≡ input))
 
 -- the clock is read only if it is wanted
 abbrev pub ReadsClock : {K : Type 0} → ClockGhosts K → Bool → K → K → Type 0

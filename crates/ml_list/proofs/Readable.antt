@@ -260,8 +260,8 @@ module _ (name : Name) where
   of_thread : is_of_thread name ≡ true → Acts name
   of_thread e = either (is_of_range name) (is_thread_file name) of_range of_threads e
 
-  of_block : (at : ℕ) → is_of_index at name ≡ true → Acts name
-  of_block at e =
+  of_group : (at : ℕ) → is_of_index at name ≡ true → Acts name
+  of_group at e =
       let parts = and_parts (nat_lt (at / 100) 1_000_000) (same_name name (index_name (at / 100))) e in
       let low = ltb-true (at / 100) 1_000_000 parts.0 in
       same name (index_name (at / 100)) (at_place 10 (at / 100) 0 999_999 refl (omega arith) (omega (arith, low))) parts.1
@@ -277,7 +277,7 @@ module _ (name : Name) where
   asked c sender (Confirm word set s) e = to_confirm word set (address_named s.who) e
   asked c sender (Members set) e = of_members c sender set e
   asked c sender (Get from to) e = read_by c sender (is_of_posts from (unwrap_or to from) name) (of_posts from (unwrap_or to from)) e
-  asked c sender (Index at) e = read_by c sender (is_of_index at name) (of_block at) e
+  asked c sender (Index at) e = read_by c sender (is_of_index at name) (of_group at) e
   asked c sender (Thread at) e = read_by c sender (is_of_thread name) of_thread e
   asked c sender Post e = of_ids e
   asked c sender Help e = of_ids e

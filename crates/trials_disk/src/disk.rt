@@ -25,7 +25,7 @@ fn pairs(source: &mut MemSource, out: &mut Bytes) -> Result<(), AllocError> {
 }
 
 // Adds what four readings of a clock answer, a line each.
-fn instants(clock: &mut MemClock, out: &mut Bytes) -> Result<(), AllocError> {
+fn moments(clock: &mut MemClock, out: &mut Bytes) -> Result<(), AllocError> {
     for _ in 0..4 {
         match clock.now() {
             Ok(moment) => out.push_number(moment)?,
@@ -82,7 +82,7 @@ fn answered(
     if verb == "source" {
         Ok(pairs(input, out)?)
     } else if verb == "clock" {
-        Ok(instants(&mut clock_of(alloc, words)?, out)?)
+        Ok(moments(&mut clock_of(alloc, words)?, out)?)
     } else {
         let steps = read_whole(alloc, input)?;
         stepped(alloc, verb, site, steps.as_slice(), out)

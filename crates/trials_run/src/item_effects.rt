@@ -97,7 +97,7 @@ fn kept(alloc: Global, image: &Image, words: &[String]) -> Result<Bytes, AllocEr
 }
 
 // How many of the first files of the kept replies are there. A word says how many files are the first.
-fn batches(alloc: Global, image: &Image, words: &[String]) -> Result<Bytes, AllocError> {
+fn blocks(alloc: Global, image: &Image, words: &[String]) -> Result<Bytes, AllocError> {
     let count = match words.first() {
         Some(word) => read_number(word.as_bytes()).unwrap_or(0),
         None => 0,
@@ -160,7 +160,7 @@ fn seen(alloc: Global, image: Image, verb: &str, words: &[String]) -> Result<(u8
     let text = if verb == "kept" {
         kept(alloc, &image, words)?
     } else {
-        batches(alloc, &image, words)?
+        blocks(alloc, &image, words)?
     };
     ended_with(alloc, 0, image, text.as_slice())
 }
@@ -174,7 +174,7 @@ pub(crate) fn ended(
     input: &mut MemSource,
 ) -> Result<(u8, MemSite), Fail> {
     let image = site.crash(alloc, 0, Fill::Old)?;
-    if verb == "kept" || verb == "batches" {
+    if verb == "kept" || verb == "blocks" {
         return seen(alloc, image, verb, words);
     }
     let list = list_of(alloc, site, &image)?;

@@ -146,7 +146,7 @@ put config flags | run load => 0 damaged 1 0
 fail 1 | run load => 0 a read failed
 list drop log
 # A floor removes 1,000 files at most.
-each 0 1000 done {0..4598:\0}\x07\0\0\0\0\0\0\0\0 | input F1:0,10:1000000000,6:512002,F1:0,10:1000000000,6:512001,F1:0,10:1000000000,7:1024002, | run apply => 0 36 0\n34 512001\n36 0\n | run batches 1001 => 0 1 | run kept 512000 512511 => 0 \0\0\0\0\0\0\0\0\0\x07\0\0\0\0\0\0\0\0 | run floor => 0 512001
+each 0 1000 done {0..4598:\0}\x07\0\0\0\0\0\0\0\0 | input F1:0,10:1000000000,6:512002,F1:0,10:1000000000,6:512001,F1:0,10:1000000000,7:1024002, | run apply => 0 36 0\n34 512001\n36 0\n | run blocks 1001 => 0 1 | run kept 512000 512511 => 0 \0\0\0\0\0\0\0\0\0\x07\0\0\0\0\0\0\0\0 | run floor => 0 512001
 # No list is there.
 run load => 0 none
 ";

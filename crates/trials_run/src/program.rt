@@ -1,5 +1,5 @@
 // The calls of the tables, as words. Of runs, with the input as the stream: `make`, `spool LIMIT`, `cut BYTES`, `longest LEAST MOST`,
-// `members COUNT` and `gate`. Of items: `apply`, `floor`, `load`, `kept NUMBER ..` and `batches COUNT`. Of streams: `read ASK ..` and
+// `members COUNT` and `gate`. Of items: `apply`, `floor`, `load`, `kept NUMBER ..` and `blocks COUNT`. Of streams: `read ASK ..` and
 // `ends BYTES`.
 use crate::site_runs::{cut, gate, longest, made, spool, with_members};
 use crate::{item_effects, item_texts};
