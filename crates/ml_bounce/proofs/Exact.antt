@@ -2,7 +2,6 @@
 use Rattle.std.proofs.Common.{◌≡◌, ◌↔◌, ◌<◌, ◌≤◌, ◌^◌, ◌+◌, ℕ, Bool, true, false, cond, not, ◌==◌, ◌||◌, List, [], ◌∷◌, ◌++◌, length, Option, Some, None, refl, sym, ap, ap₂, ◌∙◌, subst, arith, append_assoc, append-nil, length-append, option_map}
 use Rattle.std.specs.Prelude.{unwrap_or}
 use Rattle.std.specs.Fmt.{decimal}
-use Rattle.std.specs.List.{AllByRecursion, flat_map}
 use Rattle.std.specs.Option.{option_and_then}
 use Rattle.std.specs.Str.{bytes_eq}
 use Rattle.std.proofs.lemmas.Bool.{eqb-true, eq-eqb, ltb-true, lt-ltb, leb-true, le-leb, false≢true, and_parts, and_from}
@@ -10,18 +9,20 @@ use Rattle.std.proofs.lemmas.Fmt.{length-decimal-le}
 use Rattle.std.proofs.lemmas.Slice.Eq.{bytes_eq-Decides}
 use Rattle.ml_base.specs.Address.{IsAddress}
 use Rattle.ml_base.specs.Bytes.{Text, lower, is_empty}
+use Rattle.ml_base.specs.Dir.{Dir}
+use Rattle.ml_base.specs.declared.names.Name.{Name}
 use Rattle.ml_base.specs.Netstrings.{ns, netstring_at}
 use Rattle.ml_base.specs.Numbers.{moment_in}
-use Rattle.ml_base.specs.Sorted.{byte_cmp, is_sorted}
 use Rattle.ml_base.specs.Splits.{ns_row, AreShort}
 use Rattle.ml_base.proofs.Addresses.{address_short}
 use Rattle.ml_base.proofs.Netstrings.{netstring_written, netstring_read}
-use Rattle.ml_rows.specs.Rows.{both_of, row_of, EachFrom, netstrings_at}
+use Rattle.ml_rows.specs.Rows.{both_of, netstrings_at}
 use Rattle.ml_rows.specs.Values.{address_in, comma_text, comma_numbers}
-use Rattle.ml_rows.proofs.RowLaws.{one_some, none_some, only_read, only_there, made_read, both_read, both_there, netstrings_read, netstrings_written, row_read, row_written, four}
+use Rattle.ml_rows.proofs.RowLaws.{one_some, none_some, only_read, only_there, made_read, both_read, both_there, netstrings_read, netstrings_written, four}
 use Rattle.ml_rows.proofs.ValueLaws.{moment_read, moment_written, address_is, address_there, commas_read, commas_written, comma_length}
 use Rattle.ml_bounce.specs.Files.{IsLedgerFile, IsEntry, bucket_of, content_text, entry_text, stage_text, is_stage, are_distinct}
-use Rattle.ml_bounce.specs.Ledger.{Ledger, LedgerEntry, Stage, Unwarned, Warned, WarnFailed, Probed, is_blank_at}
+use Rattle.ml_bounce.specs.Ledger.{Ledger, LedgerEntry, Stage, Unwarned, Warned, WarnFailed, Probed, entry_key, is_blank_at}
+use Rattle.ml_keyed.proofs.Exact as keyed
 use Rattle.ml_bounce.specs.Reading.{stage_of, key_in, entry_with, fits, entry_of_fields, entry_of_content, entry_at, ledger_of}
 
 -- a stage is read as it is spelled
@@ -298,33 +299,20 @@ entry_read n place text e rest h = go (netstring_at text) refl
 pub entry_some : (e : LedgerEntry) → 0 < length (entry_text e)
 entry_some e = omega (arith, length-append (decimal (length (content_text e)) ++ (58 ∷ content_text e)) (44 ∷ []))
 
--- the entries of a file, each at whatever place
-each_placed : (n k : ℕ) (es : Ledger) → AllByRecursion (IsEntry n) es → EachFrom (λ place. IsEntry n) k es
-each_placed n k [] all = tt
-each_placed n k (e ∷ es) all = (all.0, each_placed n (k + 1) es all.1)
-
-placed_each : (n k : ℕ) (es : Ledger) → EachFrom (λ place. IsEntry n) k es → AllByRecursion (IsEntry n) es
-placed_each n k [] all = tt
-placed_each n k (e ∷ es) all = (all.0, placed_each n (k + 1) es all.1)
-
-abbrev in_order : Ledger → Bool
-in_order es = is_sorted byte_cmp (λ (e : LedgerEntry). e.key) es
-
-pub file_read : (n : ℕ) (file : Option Text) (es : Ledger) → ledger_of n (unwrap_or file []) ≡ Some es → IsLedgerFile n file es
-file_read n file es h =
-    let o = only_read in_order (row_of (entry_at n) 0 (unwrap_or file [])) es h in
-    let r = row_read (entry_at n) entry_text (λ place. IsEntry n) (entry_written n) (entry_read n) (λ place e is. entry_some e) 0 (unwrap_or file []) es o.0 in
-    record { each = placed_each n 0 es r.0; sorted = o.1; spelled = r.1 }
-
-pub file_written : (n : ℕ) (file : Option Text) (es : Ledger) → IsLedgerFile n file es → ledger_of n (unwrap_or file []) ≡ Some es
-file_written n file es is =
-    ap (ledger_of n) is.spelled
-    ∙ only_there in_order (row_of (entry_at n) 0 (flat_map entry_text es)) es
-    (row_written (entry_at n) entry_text (λ place. IsEntry n) (entry_written n) (entry_read n) (λ place e is. entry_some e) 0 es (each_placed n 0 es is.each)) is.sorted
-
 pub file_exact : (n : ℕ) (file : Option Text) (es : Ledger) → (ledger_of n (unwrap_or file []) ≡ Some es) ↔ IsLedgerFile n file es
-file_exact n file es = (file_read n file es, file_written n file es)
+file_exact = keyed.file_exact IsEntry entry_key entry_text entry_at entry_written entry_read entry_some
 
 -- a file spells at most one row of entries
 pub file_one : (n : ℕ) (file : Option Text) (es fs : Ledger) → IsLedgerFile n file es → IsLedgerFile n file fs → es ≡ fs
-file_one n file es fs is other = one_some es fs (sym (file_written n file es is) ∙ file_written n file fs other)
+file_one = keyed.file_one IsEntry entry_key entry_text entry_at entry_written entry_read entry_some
+
+-- a file that isn't read spells none
+pub file_unread : (n : ℕ) (file : Option Text) (es : Ledger) → ledger_of n (unwrap_or file []) ≡ None → ¬ IsLedgerFile n file es
+file_unread = keyed.file_unread IsEntry entry_key entry_text entry_at entry_written entry_read entry_some
+
+-- a file of a directory that was read has these entries, and one that wasn't read has none
+pub bucket_read : (dir : Dir) (name own : Name) (n : ℕ) (file : Option Text) (text : Text) (o : Option Ledger) (es : Ledger) → name ≡ own → file ≡ dir name → text ≡ unwrap_or file [] → o ≡ ledger_of n text → o ≡ Some es → IsLedgerFile n (dir own) es
+bucket_read = keyed.there_read IsEntry entry_key entry_text entry_at entry_written entry_read entry_some
+
+pub bucket_unread : (dir : Dir) (name own : Name) (n : ℕ) (file : Option Text) (text : Text) (o : Option Ledger) → name ≡ own → file ≡ dir name → text ≡ unwrap_or file [] → o ≡ ledger_of n text → o ≡ None → (es : Ledger) → ¬ IsLedgerFile n (dir own) es
+bucket_unread = keyed.there_unread IsEntry entry_key entry_text entry_at entry_written entry_read entry_some

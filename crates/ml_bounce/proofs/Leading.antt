@@ -1,5 +1,5 @@
 -- A change that is computed from one file of a ledger does the same to the whole ledger.
-use Rattle.std.proofs.Common.{◌≡◌, ◌<◌, ◌≤◌, ℕ, Bool, true, false, cond, not, ◌==◌, ◌&&◌, List, [], ◌∷◌, ◌++◌, length, Option, Some, None, refl, sym, ap, ◌∙◌, subst, arith, length-append}
+use Rattle.std.proofs.Common.{◌≡◌, ◌<◌, ◌≤◌, ℕ, Bool, true, false, cond, not, ◌==◌, ◌&&◌, List, [], ◌∷◌, ◌++◌, length, Option, Some, None, is_some, refl, sym, ap, ◌∙◌, subst, arith, length-append}
 use Rattle.std.specs.Prelude.{IsTrue, unwrap_or}
 use Rattle.std.specs.Option.{option_map}
 use Rattle.std.specs.Ordering.{eq_by_cmp}
@@ -16,8 +16,10 @@ use Rattle.ml_base.specs.declared.names.Set.{Set}
 use Rattle.ml_base.specs.declared.puts.Put.{Put}
 use Rattle.ml_base.proofs.SortedLaws.{found_is}
 use Rattle.ml_base.proofs.BelowLemmas.{same_key}
-use Rattle.ml_bounce.specs.Answers.{ledger_kind, key_file, IsBucketOf, LeadsTo, puts_of, writes}
-use Rattle.ml_bounce.specs.Changes.{can_note, noted, note, is_warned, warn_failed, is_probed, probe_failed}
+use Rattle.ml_bounce.specs.Answers.{ledger_kind, key_file, IsBucketOf, IsInRange, LeadsTo, bounced, puts_of, writes}
+use Rattle.ml_bounce.specs.declared.bounces.Bounce.{Bounce}
+use Rattle.ml_bounce.specs.declared.bounces.Bounce.TheVariants as bounces
+use Rattle.ml_bounce.specs.Changes.{can_note, noted, is_warned, is_probed, probe_failed}
 use Rattle.ml_bounce.specs.Files.{IsLedger, IsLedgerFile, IsEntry, is_stage, are_distinct, bucket_of}
 use Rattle.ml_bounce.specs.Ledger.{Ledger, LedgerEntry, Stage, Unwarned, Warned, WarnFailed, Probed, find_entry, entry_under, no_entry, with_ledger, forget, is_blank_at}
 use Rattle.ml_bounce.proofs.Changed.{found_there, forgotten_there, put_there}
@@ -137,6 +139,18 @@ noted_known k number now e is can small less =
       no_first = λ none. absurd (false≢true (sym (push_some e.missed number) ∙ none));
     }
 
+-- an entry whose warning bounced
+abbrev warn_failed_at : ℕ → LedgerEntry → LedgerEntry
+warn_failed_at now e = record e { stage = WarnFailed now }
+
+warned_known : (k : Text) (now : ℕ) (e : LedgerEntry) → IsKnown k e → now < 253_402_300_800 → IsKnown k (warn_failed_at now e)
+warned_known k now e is less =
+    record { key = is.key; address = is.address; lowered = is.lowered; first = is.first; stage = moment now less; few = is.few; missed = is.missed; distinct = is.distinct; no_first = is.no_first }
+
+-- a ledger whose entry of a key is changed, if it passes a test
+abbrev if_entry : (LedgerEntry → Bool) → (LedgerEntry → LedgerEntry) → Text → Ledger → Option Ledger
+if_entry test make k es = cond (test (entry_under k es)) (Some (with_ledger (make (entry_under k es)) es)) None
+
 -- if the test holds, the answer leads to the new ledger, and otherwise there is none
 lead_if : (dir : Dir) (set : Set) (k : Text) (b : Bool) (bucket ledger : Ledger) → (b ≡ true → IsPut dir set k bucket ledger) → LeadsTo dir set (option_map (writes set k) (cond b (Some bucket) None)) (cond b (Some ledger) None)
 lead_if dir set k true bucket ledger h = h refl
@@ -146,31 +160,46 @@ module _ (dir : Dir) (set : Set) (k : Text) (bucket ledger : Ledger) (file : IsB
   pub same_under : entry_under k bucket ≡ entry_under k ledger
   same_under = ap (λ (o : Option LedgerEntry). unwrap_or o (no_entry k)) (sym (found_there dir (ledger_kind set) ledger bucket k stands file))
 
-  pub note_leads : (number now : ℕ) (answer : Option (List Put)) → IsAddress k → lower k ≡ k → number ≤ 99_999_999 → now < 253_402_300_800 → answer ≡ option_map (writes set k) (note k number now bucket) → LeadsTo dir set answer (note k number now ledger)
-  note_leads number now answer address low small less is =
+  -- a change of the key's entry that keeps it one that a file can spell, and leaves something to remember
+  entry_leads : (test : LedgerEntry → Bool) (make : LedgerEntry → LedgerEntry) (answer : Option (List Put)) → IsAddress k → lower k ≡ k
+      → ((e : LedgerEntry) → IsKnown k e → test e ≡ true → IsKnown k (make e) × (is_blank_at (make e).stage (make e).missed ≡ false))
+      → answer ≡ option_map (writes set k) (if_entry test make k bucket) → LeadsTo dir set answer (if_entry test make k ledger)
+  entry_leads test make answer address low keeps is =
       let e = entry_under k bucket in
       let here = known k (bucket_of k) (dir (key_file set k)) bucket address low file in
-      subst (λ (a : Option (List Put)). LeadsTo dir set a (note k number now ledger)) (sym is)
-      (subst (λ (f : LedgerEntry). LeadsTo dir set (option_map (writes set k) (note k number now bucket)) (cond (can_note number f) (Some (with_ledger (noted number now f) ledger)) None)) same_under
-      (lead_if dir set k (can_note number e) (with_ledger (noted number now e) bucket) (with_ledger (noted number now e) ledger)
-      (λ can. put_known dir set k bucket ledger (noted number now e) (noted_known k number now e here can small less) (blank_none e.stage (e.missed ++ number ∷ []) (push_some e.missed number)) file stands)))
+      subst (λ (a : Option (List Put)). LeadsTo dir set a (if_entry test make k ledger)) (sym is)
+      (subst (λ (f : LedgerEntry). LeadsTo dir set (option_map (writes set k) (if_entry test make k bucket)) (cond (test f) (Some (with_ledger (make f) ledger)) None)) same_under
+      (lead_if dir set k (test e) (with_ledger (make e) bucket) (with_ledger (make e) ledger) (λ passed. let new = keeps e here passed in put_known dir set k bucket ledger (make e) new.0 new.1 file stands)))
 
-  pub warned_leads : (t now : ℕ) (answer : Option (List Put)) → IsAddress k → lower k ≡ k → now < 253_402_300_800 → answer ≡ option_map (writes set k) (warn_failed k t now bucket) → LeadsTo dir set answer (warn_failed k t now ledger)
-  warned_leads t now answer address low less is =
-      let e = entry_under k bucket in
-      let here = known k (bucket_of k) (dir (key_file set k)) bucket address low file in
-      let new : LedgerEntry = record e { stage = WarnFailed now } in
-      let is_new : IsKnown k new = record { key = here.key; address = here.address; lowered = here.lowered; first = here.first; stage = moment now less; few = here.few; missed = here.missed; distinct = here.distinct; no_first = here.no_first } in
-      subst (λ (a : Option (List Put)). LeadsTo dir set a (warn_failed k t now ledger)) (sym is)
-      (subst (λ (f : LedgerEntry). LeadsTo dir set (option_map (writes set k) (warn_failed k t now bucket)) (cond (is_warned t f.stage) (Some (with_ledger (record f { stage = WarnFailed now }) ledger)) None)) same_under
-      (lead_if dir set k (is_warned t e.stage) (with_ledger new bucket) (with_ledger new ledger) (λ _. put_known dir set k bucket ledger new is_new refl file stands)))
-
-  pub probed_leads : (t : ℕ) (answer : Option (List Put)) → answer ≡ option_map (writes set k) (probe_failed k t bucket) → LeadsTo dir set answer (probe_failed k t ledger)
+  probed_leads : (t : ℕ) (answer : Option (List Put)) → answer ≡ option_map (writes set k) (probe_failed k t bucket) → LeadsTo dir set answer (probe_failed k t ledger)
   probed_leads t answer is =
       let e = entry_under k bucket in
       subst (λ (a : Option (List Put)). LeadsTo dir set a (probe_failed k t ledger)) (sym is)
       (subst (λ (f : LedgerEntry). LeadsTo dir set (option_map (writes set k) (probe_failed k t bucket)) (cond (is_probed t f.stage) (Some (forget k ledger)) None)) same_under
       (lead_if dir set k (is_probed t e.stage) (forget k bucket) (forget k ledger) (λ _. forgotten_there dir (ledger_kind set) ledger bucket k stands file)))
+
+  pub bounced_leads : (bounce : Bounce) (answer : Option (List Put)) → IsAddress k → lower k ≡ k → IsInRange bounce → answer ≡ option_map (writes set k) (bounced bounce k bucket) → LeadsTo dir set answer (bounced bounce k ledger)
+  bounced_leads (bounces.Mail number now) answer address low range is =
+      entry_leads (can_note number) (noted number now) answer address low
+      (λ e here can. (noted_known k number now e here can range.0 range.1, blank_none e.stage (e.missed ++ number ∷ []) (push_some e.missed number))) is
+  bounced_leads (bounces.Warning t now) answer address low range is =
+      entry_leads (λ (e : LedgerEntry). is_warned t e.stage) (warn_failed_at now) answer address low (λ e here warned. (warned_known k now e here range, refl)) is
+  bounced_leads (bounces.Probe t) answer address low range is = probed_leads t answer is
+
+  -- whether a probe's bounce takes the key's entry out is seen in the key's file
+  pub probed_there : (t : ℕ) → is_some (probe_failed k t bucket) ≡ is_some (probe_failed k t ledger)
+  probed_there t = ap (λ (e : LedgerEntry). is_some (cond (is_probed t e.stage) (Some (forget k bucket)) None)) same_under ∙ some_either (is_probed t (entry_under k ledger).stage)
+    where
+      some_either : (b : Bool) → is_some (cond b (Some (forget k bucket)) None) ≡ is_some (cond b (Some (forget k ledger)) None)
+      some_either true = refl
+      some_either false = refl
+
+pub probed_some : (k : Text) (t : ℕ) (es : Ledger) (b : Bool) → b ≡ is_probed t (entry_under k es).stage → b ≡ is_some (probe_failed k t es)
+probed_some k t es b is = go b ∙ ap (λ c. is_some (cond c (Some (forget k es)) None)) is
+  where
+    go : (c : Bool) → c ≡ is_some (cond c (Some (forget k es)) None)
+    go true = refl
+    go false = refl
 
 -- an answer touches the key's file alone
 pub answer_only : (test : Name → Bool) (set : Set) (k : Text) (o : Option Ledger) (answer : Option (List Put)) → test (key_file set k) ≡ true → answer ≡ option_map (writes set k) o → touches_only test (puts_of answer) ≡ true
@@ -181,18 +210,10 @@ answer_only test set k o answer passes is = ap (λ (a : Option (List Put)). touc
     go (Some es) = ap (λ t. t && true) passes
 
 -- what was done to one entry is what the call answers
-pub note_made : (set : Set) (k : Text) (es : Ledger) (number now : ℕ) (can : Bool) (e new : LedgerEntry) (txn : List Put) → e ≡ entry_under k es → can ≡ can_note number e → can ≡ true → new ≡ noted number now e
-    → txn ≡ writes set new.key (with_ledger new es) → Some txn ≡ option_map (writes set k) (note k number now es)
-note_made set k es number now can e new txn own test right made put =
-    let under : new ≡ noted number now (entry_under k es) = made ∙ ap (noted number now) own in
-    let named : new.key ≡ k = ap (λ (f : LedgerEntry). f.key) under ∙ under_key k es in
+pub entry_made : (test : LedgerEntry → Bool) (make : LedgerEntry → LedgerEntry) → ((e : LedgerEntry) → (make e).key ≡ e.key) → (set : Set) (k : Text) (es : Ledger) (passed : Bool) (e new : LedgerEntry) (txn : List Put)
+    → e ≡ entry_under k es → passed ≡ test e → passed ≡ true → new ≡ make e → txn ≡ writes set new.key (with_ledger new es) → Some txn ≡ option_map (writes set k) (if_entry test make k es)
+entry_made test make keeps set k es passed e new txn own tested right made put =
+    let under : new ≡ make (entry_under k es) = made ∙ ap make own in
+    let named : new.key ≡ k = ap (λ (f : LedgerEntry). f.key) under ∙ keeps (entry_under k es) ∙ under_key k es in
     ap Some (put ∙ ap (λ (a : Text). writes set a (with_ledger new es)) named ∙ ap (λ (f : LedgerEntry). writes set k (with_ledger f es)) under)
-    ∙ sym (ap (λ b. option_map (writes set k) (cond b (Some (with_ledger (noted number now (entry_under k es)) es)) None)) (ap (can_note number) (sym own) ∙ sym test ∙ right))
-
-pub warned_made : (set : Set) (k : Text) (es : Ledger) (t now : ℕ) (is : Bool) (e new : LedgerEntry) (txn : List Put) → e ≡ entry_under k es → is ≡ is_warned t e.stage → is ≡ true → new ≡ record e { stage = WarnFailed now }
-    → txn ≡ writes set new.key (with_ledger new es) → Some txn ≡ option_map (writes set k) (warn_failed k t now es)
-warned_made set k es t now is e new txn own test right made put =
-    let under : new ≡ record (entry_under k es) { stage = WarnFailed now } = made ∙ ap (λ (f : LedgerEntry). record f { stage = WarnFailed now }) own in
-    let named : new.key ≡ k = ap (λ (f : LedgerEntry). f.key) under ∙ under_key k es in
-    ap Some (put ∙ ap (λ (a : Text). writes set a (with_ledger new es)) named ∙ ap (λ (f : LedgerEntry). writes set k (with_ledger f es)) under)
-    ∙ sym (ap (λ b. option_map (writes set k) (cond b (Some (with_ledger (record (entry_under k es) { stage = WarnFailed now }) es)) None)) (ap (λ (f : LedgerEntry). is_warned t f.stage) (sym own) ∙ sym test ∙ right))
+    ∙ sym (ap (λ b. option_map (writes set k) (cond b (Some (with_ledger (make (entry_under k es)) es)) None)) (ap test (sym own) ∙ sym tested ∙ right))

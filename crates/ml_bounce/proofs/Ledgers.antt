@@ -1,8 +1,7 @@
 -- How a change of one file changes a ledger, and that sound files are in their grammar.
 use Rattle.std.proofs.Common.{◌≡◌, ◌<◌, ℕ, Bool, true, false, cond, not, ◌&&◌, List, [], ◌∷◌, Option, Some, None, is_some, refl, sym, ap, ap₂, ◌∙◌, subst, arith}
-use Rattle.std.specs.Prelude.{IsTrue, unwrap_or}
+use Rattle.std.specs.Prelude.{IsTrue}
 use Rattle.std.specs.Ordering.{eq_by_cmp}
-use Rattle.std.specs.Str.{bytes_eq}
 use Rattle.std.proofs.lemmas.Bool.{false≢true, le-leb}
 use Rattle.ml_base.specs.Bytes.{Text}
 use Rattle.ml_base.specs.Dir.{Dir, touches_only, with_puts}
@@ -12,13 +11,10 @@ use Rattle.ml_base.specs.declared.names.Name.{Name}
 use Rattle.ml_base.specs.declared.names.Set.{Set}
 use Rattle.ml_base.specs.declared.names.Set.TheVariants as sets
 use Rattle.ml_base.specs.declared.puts.Put.{Put}
-use Rattle.ml_base.proofs.BelowLemmas.{same_key}
 use Rattle.ml_bounce.specs.Answers.{has_ledger, ledger_kind, key_file, IsBucketOf, IsNoFile, writes, forgets}
 use Rattle.ml_bounce.specs.Files.{IsLedger, IsLedgerFile, ledger_name, bucket_of}
 use Rattle.ml_bounce.specs.Ledger.{Ledger, LedgerEntry, find_entry, forget}
-use Rattle.ml_bounce.specs.Reading.{ledger_of}
 use Rattle.ml_bounce.proofs.Changed.{found_there, forgotten_there}
-use Rattle.ml_bounce.proofs.Exact.{file_read, file_written}
 use Rattle.ml_rows.proofs.RowLaws.{none_some}
 
 -- the files of a ledger are files of the table
@@ -67,21 +63,3 @@ forgets_only test set k bucket txn passes is = ap (touches_only test) is ∙ go 
 -- if the files stand for a ledger, none of them is outside its grammar
 pub no_bad_file : (dir : Dir) (set : Set) (n : ℕ) (ledger : Ledger) → n < 53 → IsLedger dir (ledger_kind set) ledger → IsNoFile dir set n → ⊥
 no_bad_file dir set n ledger less is none = none (is.buckets n) (is.files n less)
-
--- an entry that is found in a row is the first, or is found after the first
-pub find_here : (r : Bool) (k a : Text) (rest more : Ledger) (e : LedgerEntry) → rest ≡ e ∷ more → r ≡ bytes_eq k a → a ≡ e.key → r ≡ true → find_entry k rest ≡ Some e
-find_here r k a rest more e is test own h =
-    ap (find_entry k) is ∙ ap (λ t. cond t (Some e) (find_entry k more)) (same_key k e.key ∙ ap (bytes_eq k) (sym own) ∙ sym test ∙ h)
-
-pub find_after : (r : Bool) (k a : Text) (rest more : Ledger) (e : LedgerEntry) → rest ≡ e ∷ more → r ≡ bytes_eq k a → a ≡ e.key → r ≡ false → find_entry k rest ≡ find_entry k more
-find_after r k a rest more e is test own h =
-    ap (find_entry k) is ∙ ap (λ t. cond t (Some e) (find_entry k more)) (same_key k e.key ∙ ap (bytes_eq k) (sym own) ∙ sym test ∙ h)
-
--- a file that is read spells its entries, and one that isn't read spells none
-pub bucket_read : (dir : Dir) (set : Set) (n : ℕ) (name : Name) (file : Option Text) (o : Option Ledger) (es : Ledger) → name ≡ ledger_name (ledger_kind set) n → file ≡ dir name → o ≡ ledger_of n (unwrap_or file []) → o ≡ Some es
-    → IsLedgerFile n (dir (ledger_name (ledger_kind set) n)) es
-bucket_read dir set n name file o es named there read some = subst (λ (f : Option Text). IsLedgerFile n f es) (there ∙ ap dir named) (file_read n file es (sym read ∙ some))
-
-pub bucket_unread : (dir : Dir) (set : Set) (n : ℕ) (name : Name) (file : Option Text) (o : Option Ledger) → name ≡ ledger_name (ledger_kind set) n → file ≡ dir name → o ≡ ledger_of n (unwrap_or file []) → o ≡ None → IsNoFile dir set n
-bucket_unread dir set n name file o named there read none es is =
-    none_some es (sym none ∙ read ∙ file_written n file es (subst (λ (f : Option Text). IsLedgerFile n f es) (sym (there ∙ ap dir named)) is))

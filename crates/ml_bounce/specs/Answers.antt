@@ -1,15 +1,18 @@
 -- The ledgers of sets, what the calls on them answer, and which files they name as damaged.
-use Rattle.std.specs.Prelude.{◌≡◌, ◌<◌, ◌+◌, ℕ, Bool, true, false, List, [], ◌∷◌, map, take, Option, Some, None, is_some, if◌then◌else◌}
+use Rattle.std.specs.Prelude.{◌≡◌, ◌<◌, ◌≤◌, ◌+◌, ℕ, Bool, true, false, List, [], ◌∷◌, map, take, Option, Some, None, is_some, if◌then◌else◌}
 use Rattle.ml_base.specs.Bytes.{Text}
 use Rattle.ml_base.specs.Dir.{Dir, with_puts}
 use Rattle.ml_base.specs.Kinds.{bounces_kind}
 use Rattle.ml_base.specs.Name.{set_number}
+use Rattle.ml_base.specs.Ranges.{IsMoment}
 use Rattle.ml_base.specs.declared.names.Name.{Name}
 use Rattle.ml_base.specs.declared.names.Set.{Set}
 use Rattle.ml_base.specs.declared.names.Set.TheVariants as sets
 use Rattle.ml_base.specs.declared.puts.Put.{Put}
 use Rattle.ml_keyed.specs.Buckets.{AreFirst}
-use Rattle.ml_bounce.specs.Changes.{due_entries, action_of, act}
+use Rattle.ml_bounce.specs.Changes.{note, warn_failed, probe_failed, due_entries, action_of, act}
+use Rattle.ml_bounce.specs.declared.bounces.Bounce.{Bounce}
+use Rattle.ml_bounce.specs.declared.bounces.Bounce.TheVariants as bounces
 use Rattle.ml_bounce.specs.declared.actions.Action.{Action}
 use Rattle.ml_bounce.specs.declared.actions.Action.TheVariants.{Warn, Probe, Lapse}
 use Rattle.ml_bounce.specs.Files.{IsLedger, IsLedgerFile, ledger_name, bucket_of, ledger_put}
@@ -46,6 +49,18 @@ writes set k entries = ledger_put (ledger_kind set) (bucket_of k) entries ∷ []
 -- the puts that forget a key: none if there is no entry
 abbrev pub forgets : Set → Text → Ledger → List Put
 forgets set k bucket = if is_some (find_entry k bucket) then writes set k (forget k bucket) else []
+
+-- what a bounce makes of a ledger: None if it changes nothing
+abbrev pub bounced : Bounce → Text → Ledger → Option Ledger
+bounced (bounces.Mail number now) k ledger = note k number now ledger
+bounced (bounces.Warning t now) k ledger = warn_failed k t now ledger
+bounced (bounces.Probe t) k ledger = probe_failed k t ledger
+
+-- the number of a bounce and its moment are in their ranges
+abbrev pub IsInRange : Bounce → Type 0
+IsInRange (bounces.Mail number now) = (number ≤ 99_999_999) × IsMoment now
+IsInRange (bounces.Warning t now) = IsMoment now
+IsInRange (bounces.Probe t) = Unit {0}
 
 -- an answer after which the files stand for the new ledger; no answer if there is no new ledger
 abbrev pub LeadsTo : Dir → Set → Option (List Put) → Option Ledger → Type 0

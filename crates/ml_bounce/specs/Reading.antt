@@ -1,13 +1,12 @@
 -- How the texts of a ledger's files are read as entries.
-use Rattle.std.specs.Prelude.{ℕ, Bool, true, not, ◌&&◌, ◌||◌, ◌==◌, nat_le, List, [], ◌∷◌, length, Option, Some, None, option_map, if◌then◌else◌}
+use Rattle.std.specs.Prelude.{ℕ, Bool, not, ◌&&◌, ◌||◌, ◌==◌, nat_le, List, [], ◌∷◌, length, Option, Some, None, option_map, if◌then◌else◌}
 use Rattle.std.specs.Option.{option_and_then}
-use Rattle.std.specs.Ordering.{is_lt}
 use Rattle.std.specs.Str.{bytes_eq}
 use Rattle.ml_base.specs.Bytes.{Text, lower, is_empty}
 use Rattle.ml_base.specs.Netstrings.{netstring_at}
 use Rattle.ml_base.specs.Numbers.{moment_in}
-use Rattle.ml_base.specs.Sorted.{byte_cmp, is_sorted}
-use Rattle.ml_rows.specs.Rows.{only_if, both_of, row_of, netstrings_at}
+use Rattle.ml_keyed.specs.Records.{records_in}
+use Rattle.ml_rows.specs.Rows.{only_if, both_of, netstrings_at}
 use Rattle.ml_rows.specs.Values.{address_in, comma_numbers}
 use Rattle.ml_bounce.specs.Ledger.{Stage, Unwarned, Warned, WarnFailed, Probed, LedgerEntry, Ledger, entry_key, is_blank_at}
 use Rattle.ml_bounce.specs.Files.{are_distinct, bucket_of}
@@ -52,19 +51,4 @@ entry_at n place text = option_and_then (λ found. option_map (λ e. (e, found.1
 
 -- the entries of the file with this number, in a row in ascending order of key
 abbrev pub ledger_of : ℕ → Text → Option Ledger
-ledger_of n text = only_if (is_sorted byte_cmp entry_key) (row_of (entry_at n) 0 text)
-
--- whether a key is below that of the first of a row of entries, if there is one
-abbrev pub is_below_first : Text → Ledger → Bool
-is_below_first k [] = true
-is_below_first k (e ∷ es) = is_lt (byte_cmp k e.key)
-
--- whether the first of a row of entries, if there is one, isn't below a key
-abbrev pub is_from : Text → Ledger → Bool
-is_from k [] = true
-is_from k (e ∷ es) = not (is_lt (byte_cmp e.key k))
-
--- the entries without the first, if that has this key
-abbrev pub past_key : Text → Ledger → Ledger
-past_key k [] = []
-past_key k (e ∷ es) = if bytes_eq e.key k then es else e ∷ es
+ledger_of = records_in entry_at entry_key

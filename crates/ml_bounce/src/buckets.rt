@@ -1,18 +1,18 @@
 // Names, reads and writes the files of a set's ledger.
-ghost use Rattle.std.specs.Prelude.{◌≡◌, ◌<◌, ◌∷◌, [], true, ℕ, List, IsTrue, IfOk};
+ghost use Rattle.std.specs.Prelude.{◌≡◌, ◌<◌, ◌∷◌, [], true, ℕ, List, IsTrue, IfOk, unwrap_or};
 ghost use Rattle.ml_base.specs.Address.{key, IsAddress};
 ghost use Rattle.ml_base.specs.Name.{is_file};
 ghost use Rattle.ml_base.specs.ReadFiles.{IsReading, NamesDamaged};
 ghost use Rattle.ml_bounce.specs.Answers.{has_ledger, ledger_kind, key_file, IsBucketOf, IsNoFile};
 ghost use Rattle.ml_bounce.specs.Files.{IsLedgerFile, ledger_name, bucket_of};
 
-use crate::ledger_reader::{Entries, read_file};
+use crate::entry_records::Entries;
 use ml_base::{Address, Bytes, Files, Name, PartError, Put, Set, Txn};
-use ml_keyed::bucket_of;
+use ml_keyed::{bucket_of, read_file};
 use std::alloc::{AllocError, Global};
 
 // The key of an address, the address in lower case.
-pub(crate) fn key_of(alloc: Global, who: &Address) -> Result<Bytes, AllocError>
+fn key_of(alloc: Global, who: &Address) -> Result<Bytes, AllocError>
     ensures key { IfOk result (λ k. k ≡ key who.now) }
     ensures address { IfOk result IsAddress }
 {
@@ -52,6 +52,16 @@ pub(crate) fn written(
     Ok(txn)
 }
 
+// The bytes of a file, or no bytes if it is absent.
+fn text_of(file: &Option<Bytes>) -> &[u8]
+    ensures { result.now ≡ unwrap_or file.now [] }
+{
+    match file {
+        Some(text) => text.as_slice(),
+        None => &[],
+    }
+}
+
 // The entries of one of the files of a set's ledger.
 pub(crate) fn read_bucket<F: Files>(
     alloc: Global,
@@ -67,14 +77,14 @@ pub(crate) fn read_bucket<F: Files>(
 {
     let name = file_name(set, n);
     let file = files.get(alloc, name)?;
-    match read_file(alloc, n, &file)? {
+    match read_file(alloc, n, text_of(&file))? {
         Some(entries) => Ok(entries),
         None => Err(PartError::Damaged(name)),
     }
 }
 
 // The entries of the file that has a key.
-pub(crate) fn read_bucket_of<F: Files>(
+fn read_bucket_of<F: Files>(
     alloc: Global,
     files: &mut F,
     set: Set,
@@ -86,4 +96,30 @@ pub(crate) fn read_bucket_of<F: Files>(
     ensures reads { IsReading ⟦<F as Files>⟧ files.old files.new result }
 {
     read_bucket(alloc, files, set, bucket_of(key))
+}
+
+// The file of an address in a set's ledger: the address's key, and the entries that the file has.
+#[derive(Drop)]
+pub(crate) struct Bucket {
+    pub(crate) key: Bytes,
+    pub(crate) entries: Entries,
+}
+
+// Reads the file of an address.
+pub(crate) fn open_bucket<F: Files>(
+    alloc: Global,
+    files: &mut F,
+    set: Set,
+    who: &Address,
+) -> Result<Bucket, PartError>
+    requires { IsTrue (has_ledger set) }
+    ensures key { IfOk result (λ bucket. bucket.key ≡ key who.now) }
+    ensures address { IfOk result (λ bucket. IsAddress bucket.key) }
+    ensures value { IsTrue F.tells → IfOk result (λ bucket. IsBucketOf (F.map files.old) set (key who.now) bucket.entries) }
+    ensures names { NamesDamaged ⟦<F as Files>⟧ (λ name. name ≡ key_file set (key who.now)) (λ _. IsNoFile (F.map files.old) set (bucket_of (key who.now))) result }
+    ensures reads { IsReading ⟦<F as Files>⟧ files.old files.new result }
+{
+    let key = key_of(alloc, who)?;
+    let entries = read_bucket_of(alloc, files, set, key.as_slice())?;
+    Ok(Bucket { key, entries })
 }

@@ -12,7 +12,7 @@ ghost use Rattle.ml_bounce.specs.Files.{IsLedger};
 ghost use Rattle.ml_bounce.specs.Ledger.{Ledger};
 
 use crate::buckets::read_bucket;
-use crate::ledger_reader::Entries;
+use crate::entry_records::Entries;
 use crate::{Action, Actions, LedgerEntry, Stage};
 use ml_base::{Files, PartError, Row, Set, age};
 use std::alloc::{AllocError, Global};

@@ -8,13 +8,13 @@ ghost use Rattle.ml_bounce.specs.Changes as spec;
 ghost use Rattle.ml_bounce.specs.Ledger.{with_ledger};
 ghost use Rattle.ml_bounce.specs.Ledger as ledgers;
 
-use crate::buckets::written;
-use crate::entry_removals::find;
+use crate::buckets::{Bucket, written};
+use crate::entry_records::Entries;
 use crate::ledger_reader::MAX_MISSED;
-use crate::ledger_writer::{file_with, file_without};
 use crate::numbers::has_number;
 use crate::{LedgerEntry, Stage};
 use ml_base::{Address, Numbers, Set, Txn};
+use ml_keyed::{file_without, find, text_with};
 use std::alloc::{AllocError, Global};
 
 // A copy of numbers, with room for one more.
@@ -38,19 +38,15 @@ pub(crate) fn copied(alloc: Global, entry: &LedgerEntry) -> Result<LedgerEntry, 
     })
 }
 
-// A copy of a key's entry, or an entry with nothing to remember if there is none.
-pub(crate) fn entry_under(
-    alloc: Global,
-    entries: &[LedgerEntry],
-    key: &[u8],
-) -> Result<LedgerEntry, AllocError>
-    requires { IsAddress key.now }
-    ensures { IfOk result (λ entry. entry ≡ ledgers.entry_under key.now entries.now) }
+// A copy of the key's entry, or an entry with nothing to remember if there is none.
+fn entry_under(alloc: Global, bucket: &Bucket) -> Result<LedgerEntry, AllocError>
+    requires { IsAddress bucket.now.key }
+    ensures { IfOk result (λ entry. entry ≡ ledgers.entry_under bucket.now.key bucket.now.entries) }
 {
-    match find(entries, key) {
+    match find(bucket.entries.as_slice(), bucket.key.as_slice()) {
         Some(entry) => copied(alloc, entry),
         None => Ok(LedgerEntry {
-            key: Address::from_canonical(alloc, key)?,
+            key: Address::from_canonical(alloc, bucket.key.as_slice())?,
             first: 0,
             stage: Stage::Unwarned,
             missed: Numbers::new(alloc),
@@ -62,13 +58,13 @@ pub(crate) fn entry_under(
 pub(crate) fn put_entry(
     alloc: Global,
     set: Set,
-    entries: &[LedgerEntry],
+    entries: &Entries,
     entry: &LedgerEntry,
 ) -> Result<Txn, AllocError>
     requires { IsTrue (has_ledger set) }
     ensures { IfOk result (λ txn. txn ≡ writes set entry.now.key (with_ledger entry.now entries.now)) }
 {
-    let bytes = file_with(alloc, entries, entry)?;
+    let bytes = text_with(alloc, entries.as_slice(), entry)?;
     written(alloc, set, entry.key.bytes(), Some(bytes))
 }
 
@@ -95,21 +91,20 @@ fn noted(entry: LedgerEntry, number: u64, now: u64) -> Result<LedgerEntry, Alloc
 pub(crate) fn note_in(
     alloc: Global,
     set: Set,
-    key: &[u8],
-    entries: &[LedgerEntry],
+    bucket: &Bucket,
     number: u64,
     now: u64,
 ) -> Result<Option<Txn>, AllocError>
     requires ledger { IsTrue (has_ledger set) }
-    requires address { IsAddress key.now }
-    ensures { IfOk result (λ answer. answer ≡ option_map (writes set key.now) (spec.note key.now number now entries.now)) }
+    requires address { IsAddress bucket.now.key }
+    ensures { IfOk result (λ answer. answer ≡ option_map (writes set bucket.now.key) (spec.note bucket.now.key number now bucket.now.entries)) }
 {
-    let entry = entry_under(alloc, entries, key)?;
+    let entry = entry_under(alloc, bucket)?;
     if !can_note(number, &entry) {
         return Ok(None);
     }
     let entry = noted(entry, number, now)?;
-    Ok(Some(put_entry(alloc, set, entries, &entry)?))
+    Ok(Some(put_entry(alloc, set, &bucket.entries, &entry)?))
 }
 
 fn is_warned(t: u64, stage: Stage) -> bool
@@ -138,30 +133,29 @@ fn is_probed(t: u64, stage: Stage) -> bool
 pub(crate) fn warn_failed_in(
     alloc: Global,
     set: Set,
-    key: &[u8],
-    entries: &[LedgerEntry],
+    bucket: &Bucket,
     t: u64,
     now: u64,
 ) -> Result<Option<Txn>, AllocError>
     requires ledger { IsTrue (has_ledger set) }
-    requires address { IsAddress key.now }
-    ensures { IfOk result (λ answer. answer ≡ option_map (writes set key.now) (spec.warn_failed key.now t now entries.now)) }
+    requires address { IsAddress bucket.now.key }
+    ensures { IfOk result (λ answer. answer ≡ option_map (writes set bucket.now.key) (spec.warn_failed bucket.now.key t now bucket.now.entries)) }
 {
-    let mut entry = entry_under(alloc, entries, key)?;
+    let mut entry = entry_under(alloc, bucket)?;
     if !is_warned(t, entry.stage) {
         return Ok(None);
     }
     entry.stage = Stage::WarnFailed(now);
-    Ok(Some(put_entry(alloc, set, entries, &entry)?))
+    Ok(Some(put_entry(alloc, set, &bucket.entries, &entry)?))
 }
 
-// The stage of a key's entry.
-fn stage_under(entries: &[LedgerEntry], key: &[u8]) -> Stage
-    ensures { result ≡ (ledgers.entry_under key.now entries.now).stage }
+// Whether the key's entry is at the stage of a probe of this moment.
+pub(crate) fn is_probed_in(bucket: &Bucket, t: u64) -> bool
+    ensures { result ≡ spec.is_probed t (ledgers.entry_under bucket.now.key bucket.now.entries).stage }
 {
-    match find(entries, key) {
-        Some(entry) => entry.stage,
-        None => Stage::Unwarned,
+    match find(bucket.entries.as_slice(), bucket.key.as_slice()) {
+        Some(entry) => is_probed(t, entry.stage),
+        None => false,
     }
 }
 
@@ -169,16 +163,16 @@ fn stage_under(entries: &[LedgerEntry], key: &[u8]) -> Stage
 pub(crate) fn probe_failed_in(
     alloc: Global,
     set: Set,
-    key: &[u8],
-    entries: &[LedgerEntry],
+    bucket: &Bucket,
     t: u64,
 ) -> Result<Option<Txn>, AllocError>
     requires { IsTrue (has_ledger set) }
-    ensures { IfOk result (λ answer. answer ≡ option_map (writes set key.now) (spec.probe_failed key.now t entries.now)) }
+    ensures { IfOk result (λ answer. answer ≡ option_map (writes set bucket.now.key) (spec.probe_failed bucket.now.key t bucket.now.entries)) }
 {
-    if !is_probed(t, stage_under(entries, key)) {
+    if !is_probed_in(bucket, t) {
         return Ok(None);
     }
-    let file = file_without(alloc, entries, key)?;
+    let key = bucket.key.as_slice();
+    let file = file_without(alloc, bucket.entries.as_slice(), key)?;
     Ok(Some(written(alloc, set, key, file)?))
 }

@@ -1,6 +1,5 @@
 // Takes the entry of an address out of a ledger.
 ghost use Rattle.std.specs.Prelude.{◌≡◌, ◌<◌, true, ℕ, List, IsTrue, IfOk, IfErr};
-ghost use Rattle.std.specs.Option.{option_map};
 ghost use Rattle.ml_base.specs.Address.{key};
 ghost use Rattle.ml_base.specs.Dir.{Dir, same_name, touches_only, with_puts};
 ghost use Rattle.ml_base.specs.Name.{is_file};
@@ -8,39 +7,21 @@ ghost use Rattle.ml_base.specs.PartErrors.{OnDamaged};
 ghost use Rattle.ml_base.specs.ReadFiles.{IsReading, NamesDamaged};
 ghost use Rattle.ml_bounce.specs.Answers.{has_ledger, ledger_kind, key_file, IsBucketOf, IsNoFile, forgets};
 ghost use Rattle.ml_bounce.specs.Files.{IsLedger, bucket_of};
-ghost use Rattle.ml_bounce.specs.Ledger.{Ledger, find_entry};
+ghost use Rattle.ml_bounce.specs.Ledger.{Ledger};
 ghost use Rattle.ml_bounce.specs.Ledger as spec;
 
-use crate::LedgerEntry;
-use crate::buckets::{key_of, read_bucket_of, written};
-use crate::ledger_writer::file_without;
+use crate::buckets::{Bucket, open_bucket, written};
 use ml_base::{Address, Files, PartError, Set, Txn};
+use ml_keyed::{file_without, find};
 use std::alloc::{AllocError, Global};
 
-// The entry of a key.
-pub(crate) fn find<'a>(entries: &'a [LedgerEntry], key: &[u8]) -> Option<&'a LedgerEntry>
-    ensures { option_map (λ e. e.now) result ≡ find_entry key.now entries.now }
-{
-    let mut rest = entries;
-    while let [first, more @ ..] = rest {
-        if key == first.key.bytes() {
-            return Some(first);
-        }
-        rest = more;
-    }
-    None
-}
-
-// The puts that take the entry of a key out of its file.
-pub(crate) fn forgotten(
-    alloc: Global,
-    set: Set,
-    key: &[u8],
-    entries: &[LedgerEntry],
-) -> Result<Txn, AllocError>
+// The puts that take the entry of the key out of its file.
+fn forgotten(alloc: Global, set: Set, bucket: &Bucket) -> Result<Txn, AllocError>
     requires { IsTrue (has_ledger set) }
-    ensures { IfOk result (λ txn. txn ≡ forgets set key.now entries.now) }
+    ensures { IfOk result (λ txn. txn ≡ forgets set bucket.now.key bucket.now.entries) }
 {
+    let key = bucket.key.as_slice();
+    let entries = bucket.entries.as_slice();
     if find(entries, key).is_none() {
         return Ok(Txn::new(alloc));
     }
@@ -67,7 +48,6 @@ pub fn forget<F: Files>(
     ensures sound { IsTrue F.tells → (ledger : Ledger) → IsLedger (F.map files.old) (ledger_kind set) ledger → IfErr result (λ e. OnDamaged e (λ _. ⊥)) }
     ensures reads { IsReading ⟦<F as Files>⟧ files.old files.new result }
 {
-    let key = key_of(alloc, who)?;
-    let entries = read_bucket_of(alloc, files, set, key.as_slice())?;
-    Ok(forgotten(alloc, set, key.as_slice(), entries.as_slice())?)
+    let bucket = open_bucket(alloc, files, set, who)?;
+    Ok(forgotten(alloc, set, &bucket)?)
 }

@@ -1,25 +1,19 @@
-// Reads a ledger's file: its entries, in order of key.
-ghost use Rattle.std.specs.Prelude.{◌≡◌, ◌<◌, true, false, ℕ, IsTrue, List, [], ◌∷◌, Option, Some, None, IfOk, IfSome, IfNone, unwrap_or};
+// Reads an entry of a ledger's file.
+ghost use Rattle.std.specs.Prelude.{◌≡◌, ◌<◌, true, false, ℕ, IsTrue, List, [], ◌∷◌, Option, Some, None, IfOk, IfSome, IfNone};
 ghost use Rattle.std.specs.Char.{is_ascii_uppercase};
 ghost use Rattle.std.specs.List.{list_any};
-ghost use Rattle.std.specs.Ordering.{is_lt};
 ghost use Rattle.ml_base.specs.Address.{IsAddress};
-ghost use Rattle.ml_base.specs.Sorted.{byte_cmp, is_sorted};
-ghost use Rattle.ml_rows.specs.Rows.{netstrings_at, row_of};
+ghost use Rattle.ml_rows.specs.Rows.{netstrings_at};
 ghost use Rattle.ml_bounce.specs.Ledger.{is_blank_at};
-ghost use Rattle.ml_bounce.specs.Reading.{stage_of, key_in, entry_of_content, entry_at, ledger_of};
+ghost use Rattle.ml_bounce.specs.Reading.{stage_of, key_in, entry_of_content};
 ghost use Rattle.ml_bounce.specs.Reading as spec;
 
 use crate::numbers::are_distinct;
 use crate::{LedgerEntry, Stage};
-use ml_base::{Address, Bytes, LAST_MOMENT, Row, is_canonical, number_within, split_netstring};
+use ml_base::{Address, LAST_MOMENT, is_canonical, number_within, split_netstring};
 use ml_keyed::bucket_of;
 use ml_rows::numbers_of;
 use std::alloc::{AllocError, Global};
-use std::cmp::Ordering;
-
-// The entries of one file.
-pub(crate) type Entries = Row<LedgerEntry>;
 
 pub(crate) const MAX_MISSED: usize = 100;
 
@@ -118,7 +112,7 @@ fn fits(n: u8, key: &[u8], first: u64, stage: Stage, missed: &[u64]) -> bool
 }
 
 // The entry that a text spells, if it belongs to the file with this number.
-fn entry_of(alloc: Global, n: u8, text: &[u8]) -> Result<Option<LedgerEntry>, AllocError>
+pub(crate) fn entry_of(alloc: Global, n: u8, text: &[u8]) -> Result<Option<LedgerEntry>, AllocError>
     ensures { IfOk result (λ r. r ≡ entry_of_content n text.now) }
 {
     let Some(texts) = texts_of(text) else {
@@ -146,75 +140,4 @@ fn entry_of(alloc: Global, n: u8, text: &[u8]) -> Result<Option<LedgerEntry>, Al
         stage,
         missed,
     }))
-}
-
-// The entries that a text spells one after another.
-fn entries_of(alloc: Global, n: u8, text: &[u8]) -> Result<Option<Entries>, AllocError>
-    ensures { IfOk result (λ r. r ≡ row_of (entry_at n) 0 text.now) }
-{
-    let mut out = Entries::new(alloc);
-    let mut rest = text;
-    while !rest.is_empty() {
-        let Some((content, more)) = split_netstring(rest) else {
-            return Ok(None);
-        };
-        let Some(entry) = entry_of(alloc, n, content)? else {
-            return Ok(None);
-        };
-        out.push(entry)?;
-        rest = more;
-    }
-    Ok(Some(out))
-}
-
-// Whether a text comes before another in the order of bytes.
-pub(crate) fn is_before(a: &[u8], b: &[u8]) -> bool
-    ensures { result ≡ is_lt (byte_cmp a.now b.now) }
-{
-    a.cmp(b) == Ordering::Less
-}
-
-// Whether a key is below that of the first of some entries.
-fn is_below_first(key: &[u8], entries: &[LedgerEntry]) -> bool
-    ensures { result ≡ spec.is_below_first key.now entries.now }
-{
-    match entries {
-        [] => true,
-        [first, ..] => is_before(key, first.key.bytes()),
-    }
-}
-
-// Whether the keys of entries are in ascending order.
-fn is_rising(entries: &[LedgerEntry]) -> bool
-    ensures { result ≡ is_sorted byte_cmp (λ e. e.key) entries.now }
-{
-    let mut rest = entries;
-    while let [first, more @ ..] = rest {
-        if !is_below_first(first.key.bytes(), more) {
-            return false;
-        }
-        rest = more;
-    }
-    true
-}
-
-// The entries of the file with this number, or None if it is outside its grammar.
-pub(crate) fn read_file(
-    alloc: Global,
-    n: u8,
-    file: &Option<Bytes>,
-) -> Result<Option<Entries>, AllocError>
-    ensures { IfOk result (λ r. r ≡ ledger_of n (unwrap_or file.now [])) }
-{
-    let Some(text) = file else {
-        return Ok(Some(Entries::new(alloc)));
-    };
-    let Some(entries) = entries_of(alloc, n, text.as_slice())? else {
-        return Ok(None);
-    };
-    if is_rising(entries.as_slice()) {
-        Ok(Some(entries))
-    } else {
-        Ok(None)
-    }
 }

@@ -12,13 +12,13 @@ ghost use Rattle.ml_bounce.specs.Changes as spec;
 ghost use Rattle.ml_bounce.specs.Files.{IsLedger, bucket_of};
 ghost use Rattle.ml_bounce.specs.Ledger.{Ledger, LedgerEntry as Entry, find_entry, settle};
 
-use crate::buckets::{key_of, read_bucket_of, written};
+use crate::buckets::{Bucket, open_bucket, written};
 use crate::entry_changes::{copied, put_entry};
-use crate::entry_removals::find;
+use crate::entry_records::Entries;
 use crate::ledger_reader::is_blank;
-use crate::ledger_writer::file_without;
 use crate::{Action, LedgerEntry, Stage};
 use ml_base::{Address, Files, Numbers, PartError, Set, Txn};
+use ml_keyed::{file_without, find};
 use std::alloc::{AllocError, Global};
 
 // The address that an action is for.
@@ -55,7 +55,7 @@ fn after(alloc: Global, entry: &LedgerEntry, now: u64) -> Result<LedgerEntry, Al
 fn settled(
     alloc: Global,
     set: Set,
-    entries: &[LedgerEntry],
+    entries: &Entries,
     entry: &LedgerEntry,
 ) -> Result<Txn, AllocError>
     requires { IsTrue (has_ledger set) }
@@ -64,26 +64,20 @@ fn settled(
     if !is_blank(entry.stage, entry.missed.as_slice()) {
         return put_entry(alloc, set, entries, entry);
     }
-    let file = file_without(alloc, entries, entry.key.bytes())?;
+    let file = file_without(alloc, entries.as_slice(), entry.key.bytes())?;
     written(alloc, set, entry.key.bytes(), file)
 }
 
-// The puts that do what is due for a key's entry.
-fn act_in(
-    alloc: Global,
-    set: Set,
-    key: &[u8],
-    entries: &[LedgerEntry],
-    now: u64,
-) -> Result<Txn, AllocError>
+// The puts that do what is due for the key's entry.
+fn act_in(alloc: Global, set: Set, bucket: &Bucket, now: u64) -> Result<Txn, AllocError>
     requires { IsTrue (has_ledger set) }
-    ensures { IfOk result (λ txn. txn ≡ acts set key.now now entries.now) }
+    ensures { IfOk result (λ txn. txn ≡ acts set bucket.now.key now bucket.now.entries) }
 {
-    let Some(entry) = find(entries, key) else {
+    let Some(entry) = find(bucket.entries.as_slice(), bucket.key.as_slice()) else {
         return Ok(Txn::new(alloc));
     };
     let new = after(alloc, entry, now)?;
-    settled(alloc, set, entries, &new)
+    settled(alloc, set, &bucket.entries, &new)
 }
 
 /// Does what is due for the address of an action. By the puts it is warned, and nothing is missed any more; or it is
@@ -109,7 +103,6 @@ pub fn act<F: Files>(
     ensures sound { IsTrue F.tells → (ledger : Ledger) → IsLedger (F.map files.old) (ledger_kind set) ledger → IfErr result (λ e. OnDamaged e (λ _. ⊥)) }
     ensures reads { IsReading ⟦<F as Files>⟧ files.old files.new result }
 {
-    let key = key_of(alloc, target(action))?;
-    let entries = read_bucket_of(alloc, files, set, key.as_slice())?;
-    Ok(act_in(alloc, set, key.as_slice(), entries.as_slice(), now)?)
+    let bucket = open_bucket(alloc, files, set, target(action))?;
+    Ok(act_in(alloc, set, &bucket, now)?)
 }

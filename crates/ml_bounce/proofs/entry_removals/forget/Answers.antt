@@ -1,22 +1,21 @@
-use Rattle.std.proofs.Common.{◌≡◌, ◌∙◌, ap, subst}
+use Rattle.std.proofs.Common.{◌∙◌, ap}
 use Rattle.ml_base.specs.Address.{key}
 use Rattle.ml_base.specs.Bytes.{Text}
 use Rattle.ml_base.specs.Dir.{same_name}
 use Rattle.ml_base.specs.Name.{is_file}
 use Rattle.ml_base.proofs.Bools.{name_itself}
-use Rattle.ml_bounce.specs.Answers.{key_file, IsBucketOf, forgets}
+use Rattle.ml_bounce.specs.Answers.{key_file, forgets}
 use Rattle.ml_bounce.specs.Files.{bucket_of}
 use Rattle.ml_keyed.proofs.Keys.{place_below}
 use Rattle.ml_bounce.proofs.Ledgers.{bucket_in, forgotten_by, forgets_only, ledger_file_of}
 use Rattle.ml_bounce.proofs.entry_removals.forget.Goals as goal
 
 pub returns-clause-read : goal.returns-clause-read
-returns-clause-read g c told =
-    let k : c.as_slice.result.now ≡ key c.args.who.now = c.as_slice.ensures ∙ c.in_ok-key.ensures.key in (
-      c.in_ok-entries.entries,
-      subst (λ (k : Text). IsBucketOf (g.F.Files.map c.args.files.now) c.args.set k c.in_ok-entries.entries) k (c.in_ok-entries.ensures.value told),
-      c.in_ok-forgotten.ensures ∙ ap (λ es. forgets c.args.set c.as_slice-2.result.now es) c.as_slice-3.ensures ∙ ap (λ (k : Text). forgets c.args.set k c.in_ok-entries.entries) (c.as_slice-2.ensures ∙ c.in_ok-key.ensures.key),
-    )
+returns-clause-read g c told = (
+  c.in_ok-bucket.bucket.entries,
+  c.in_ok-bucket.ensures.value told,
+  c.in_ok-forgotten.ensures ∙ ap (λ (k : Text). forgets c.args.set k c.in_ok-bucket.bucket.entries) c.in_ok-bucket.ensures.key,
+)
 
 pub returns-clause-value : goal.returns-clause-value
 returns-clause-value g c told dir ledger same is =
@@ -25,10 +24,10 @@ returns-clause-value g c told dir ledger same is =
 
 pub returns-clause-others : goal.returns-clause-others
 returns-clause-others g c =
-    forgets_only (λ name. same_name name (key_file c.args.set (key c.args.who.now))) c.args.set (key c.args.who.now) c.as_slice-3.result.now c.in_ok-forgotten.field-0 (name_itself (key_file c.args.set (key c.args.who.now)))
-    (c.in_ok-forgotten.ensures ∙ ap (λ (k : Text). forgets c.args.set k c.as_slice-3.result.now) (c.as_slice-2.ensures ∙ c.in_ok-key.ensures.key))
+    forgets_only (λ name. same_name name (key_file c.args.set (key c.args.who.now))) c.args.set (key c.args.who.now) c.in_ok-bucket.bucket.entries c.in_ok-forgotten.field-0 (name_itself (key_file c.args.set (key c.args.who.now)))
+    (c.in_ok-forgotten.ensures ∙ ap (λ (k : Text). forgets c.args.set k c.in_ok-bucket.bucket.entries) c.in_ok-bucket.ensures.key)
 
 pub returns-clause-files : goal.returns-clause-files
 returns-clause-files g c =
-    forgets_only is_file c.args.set (key c.args.who.now) c.as_slice-3.result.now c.in_ok-forgotten.field-0 (ledger_file_of c.args.set (bucket_of (key c.args.who.now)) c.requires (place_below (key c.args.who.now)))
-    (c.in_ok-forgotten.ensures ∙ ap (λ (k : Text). forgets c.args.set k c.as_slice-3.result.now) (c.as_slice-2.ensures ∙ c.in_ok-key.ensures.key))
+    forgets_only is_file c.args.set (key c.args.who.now) c.in_ok-bucket.bucket.entries c.in_ok-forgotten.field-0 (ledger_file_of c.args.set (bucket_of (key c.args.who.now)) c.requires (place_below (key c.args.who.now)))
+    (c.in_ok-forgotten.ensures ∙ ap (λ (k : Text). forgets c.args.set k c.in_ok-bucket.bucket.entries) c.in_ok-bucket.ensures.key)
