@@ -1,3 +1,6 @@
 pub mod Keys
 pub mod Union
 pub mod Files
+pub mod Parsed
+pub mod Rewritten
+pub mod Exact

@@ -1,11 +1,19 @@
-//! Records under keys, in the order of their keys and spread over 53 files, the buckets. Sets of members and ledgers have this form.
+//! Records under keys, in the order of their keys: files that are rows of them, and rows that are spread over 53 files,
+//! the buckets. Sets of members, ledgers and thread files have such records.
 #![tactic(auto)]
 
 ghost use Rattle.std.specs.Prelude.{◌≡◌, ◌<◌};
 ghost use Rattle.ml_base.specs.Bytes.{lower};
 ghost use Rattle.ml_keyed.specs.Buckets as buckets;
 
+mod record_reader;
+mod record_writer;
+mod records;
+
 use ml_base::{hash, hash_lower};
+pub use record_reader::{find, read_file};
+pub use record_writer::{file_without, text_with};
+pub use records::Keyed;
 
 /// The number of the file that has a key, 0 to 52. It takes no memory.
 pub fn bucket_of(key: &[u8]) -> u8

@@ -1,0 +1,12 @@
+use Rattle.std.proofs.Common.{◌∙◌, ◌-◌, length, take, drop}
+use Rattle.ml_base.specs.Sorted.{byte_cmp}
+use Rattle.ml_base.proofs.SortedLaws.{bytes_total}
+use Rattle.ml_rows.proofs.RowLaws.{first_of}
+use Rattle.ml_keyed.proofs.Parsed.{sorted_turn}
+use Rattle.ml_keyed.proofs.record_reader.keys_rise.Goals as goal
+
+pub loop-rest-preserved : goal.loop-rest-preserved
+loop-rest-preserved g c =
+    let rest = c.loop-rest.rest.now in
+    sorted_turn byte_cmp bytes_total g.R.Keyed.key_of rest (take (length rest - 1) (drop 1 rest)) c.first-item.result c.key.result.now c.is_below_first.result
+    (first_of rest c.first-item.result c.in-len1-up.len_at_least c.first-item.is) c.key.ensures c.is_below_first.ensures c.if-not-is_below_first.false ∙ c.loop-rest.invariant
