@@ -1,17 +1,16 @@
 // Collects the numbers of posts under the keys of their subjects.
-ghost use Rattle.std.specs.Prelude.{◌≡◌, ◌<◌, ◌≤◌, ◌+◌, ◌%◌, ℕ, [], ◌∷◌, ◌++◌, length, true, IsTrue, OnOk, IfOk, ◌↔◌, if◌then◌else◌};
+ghost use Rattle.std.specs.Prelude.{◌≡◌, ◌<◌, ◌≤◌, ◌+◌, ℕ, [], ◌∷◌, ◌++◌, length, true, IsTrue, OnOk, IfOk, ◌↔◌, if◌then◌else◌};
 ghost use Rattle.std.specs.Str.{bytes_eq};
 ghost use Rattle.ml_base.specs.Bytes.{Text};
 ghost use Rattle.ml_base.specs.ReadFiles.{IsReading, NamesDamaged};
-ghost use Rattle.ml_filing.specs.Threads.{thread_place};
 ghost use Rattle.ml_archive.specs.Breaks.{AreBadGroups, AreGroupNames};
 ghost use Rattle.ml_archive.specs.Counted.{first_of};
 ghost use Rattle.ml_archive.specs.Found as found;
 ghost use Rattle.ml_archive.specs.Found.{AreKeyedBelow, AreOrdered, AreWhole, HasPlace, with_numbers, key_numbers, numbers_at};
 
 use crate::groups::{first_number, full_index, groups_of};
-use ml_base::{Files, Numbers, PartError, hash};
-use ml_filing::{Entry, subject_key};
+use ml_base::{Files, Numbers, PartError};
+use ml_filing::{Entry, subject_key, thread_place_of};
 use std::alloc::{AllocError, Global};
 use std::collections::BTreeMap;
 
@@ -27,16 +26,9 @@ impl Places {
     fn have(&self, key: &[u8]) -> bool
         ensures { IsTrue result ↔ HasPlace self.now key.now }
     {
-        let place = place_of(key) as usize;
+        let place = thread_place_of(key) as usize;
         self.from <= place && place < self.to
     }
-}
-
-// The number of the file that has a key.
-pub(crate) fn place_of(key: &[u8]) -> u8
-    ensures { result ≡ thread_place key.now }
-{
-    (hash(key) % 256) as u8
 }
 
 // Keys of subjects, with the numbers under each.

@@ -2,7 +2,7 @@
 use Rattle.std.proofs.Common.{◌≡◌, ◌↔◌, ◌<◌, ◌≤◌, ◌^◌, ◌+◌, ◌*◌, ◌/◌, max, ℕ, Bool, true, false, cond, ◌==◌, List, [], ◌∷◌, ◌++◌, length, map, drop, get_or, Option, Some, None, ◌⊎◌, inl, inr, refl, sym, ap, ap₂, ◌∙◌, subst, arith, append_assoc, append-nil, length-append, option_map}
 use Rattle.std.specs.Prelude.{unwrap_or, IsTrue}
 use Rattle.std.specs.Fmt.{decimal}
-use Rattle.std.specs.List.{AllByRecursion, flat_map, range_with_len, list_all}
+use Rattle.std.specs.List.{AllByRecursion, range_with_len, list_all}
 use Rattle.std.specs.Option.{option_and_then}
 use Rattle.std.specs.Cmp.{nat_cmp_is}
 use Rattle.std.specs.Ordering.{nat_cmp, is_lt}
@@ -11,20 +11,23 @@ use Rattle.std.proofs.lemmas.Bool.{cases_lt, eqb-false, eqb-true, eq-eqb, ltb-tr
 use Rattle.std.proofs.lemmas.Fmt.{length-decimal-le}
 use Rattle.ml_base.specs.Address.{IsAddress}
 use Rattle.ml_base.specs.Bytes.{Text}
+use Rattle.ml_base.specs.Dir.{Dir}
+use Rattle.ml_base.specs.declared.names.Name.{Name}
 use Rattle.ml_base.specs.Netstrings.{ns}
 use Rattle.ml_base.specs.Numbers.{moment_in, number_within}
 use Rattle.ml_base.specs.Ranges.{is_post_number}
-use Rattle.ml_base.specs.Sorted.{byte_cmp, is_sorted}
+use Rattle.ml_base.specs.Sorted.{is_sorted}
 use Rattle.ml_base.specs.Splits.{ns_row, AreShort}
 use Rattle.ml_base.proofs.Addresses.{address_short}
 use Rattle.ml_base.proofs.NumberLaws.{number_spelled, number_read}
 use Rattle.ml_rows.specs.Rows.{onto, both_of, row_of, EachFrom, netstrings_at}
 use Rattle.ml_rows.specs.Values.{address_in, comma_text, comma_numbers}
 use Rattle.ml_rows.proofs.RowLaws.{one_some, none_some, only_read, only_there, made_read, both_read, both_there, netstrings_read, netstrings_written, row_read, row_written, row_goes_on, four}
+use Rattle.ml_keyed.proofs.Exact.{file_read, file_written, file_exact, file_one, there_read, there_unread}
 use Rattle.ml_rows.proofs.ValueLaws.{moment_read, moment_written, address_is, address_there, line_read, line_written, commas_read, commas_written, comma_length}
 use Rattle.ml_filing.specs.Archive.{IsIndexFile, IsNumberFile, IsEntry, entry_text}
 use Rattle.ml_filing.specs.Reading.{count_in, entry_with, entry_of_fields, after_lf, entry_in_place, index_in, thread_with, fits, thread_of_fields, thread_at, threads_in}
-use Rattle.ml_filing.specs.Threads.{Thread, IsThread, IsThreadFile, thread_place, thread_text}
+use Rattle.ml_filing.specs.Threads.{Thread, IsThread, IsThreadFile, thread_name, thread_place, thread_text}
 use Rattle.ml_filing.specs.declared.posts.Entry.{Entry}
 
 -- the number of posts is read as it is spelled
@@ -306,7 +309,7 @@ thread_short n t is =
 thread_row : (t : Thread) (rest : Text) → thread_text t ++ rest ≡ ns_row (thread_fields t) ++ rest
 thread_row t rest = ap (λ x. (ns t.key ++ x) ++ rest) (sym (append-nil (ns (comma_text t.numbers))))
 
-abbrev pub with_rest : ℕ → List Text × Text → Option (Thread × Text)
+abbrev with_rest : ℕ → List Text × Text → Option (Thread × Text)
 with_rest n found = option_map (λ (t : Thread). (t, found.1)) (thread_of_fields n found.0)
 
 abbrev found_thread : Thread → Text → Thread × Text
@@ -337,35 +340,23 @@ thread_some t =
     let a = length-append (ns t.key) (ns (comma_text t.numbers)) in
     let b = length-append (decimal (length t.key) ++ (58 ∷ t.key)) (44 ∷ []) in omega (arith, a, b)
 
-each_placed : (n k : ℕ) (ts : List Thread) → AllByRecursion (IsThread n) ts → EachFrom (λ place. IsThread n) k ts
-each_placed n k [] all = tt
-each_placed n k (t ∷ ts) all = (all.0, each_placed n (k + 1) ts all.1)
-
-placed_each : (n k : ℕ) (ts : List Thread) → EachFrom (λ place. IsThread n) k ts → AllByRecursion (IsThread n) ts
-placed_each n k [] all = tt
-placed_each n k (t ∷ ts) all = (all.0, placed_each n (k + 1) ts all.1)
-
-abbrev keys_rise : List Thread → Bool
-keys_rise ts = is_sorted byte_cmp (λ (t : Thread). t.key) ts
-
 pub threads_read : (n : ℕ) (file : Option Text) (ts : List Thread) → threads_in n (unwrap_or file []) ≡ Some ts → IsThreadFile n file ts
-threads_read n file ts h =
-    let o = only_read keys_rise (row_of (thread_at n) 0 (unwrap_or file [])) ts h in
-    let r = row_read (thread_at n) thread_text (λ place. IsThread n) (thread_written n) (thread_read n) (λ place t is. thread_some t) 0 (unwrap_or file []) ts o.0 in
-    record { each = placed_each n 0 ts r.0; sorted = o.1; spelled = r.1 }
-
--- a row of threads goes on after its first one, or ends there
-pub threads_more : (n k : ℕ) (text : Text) (t : Thread) (rest : Text) → thread_at n k text ≡ Some (t, rest) → row_of (thread_at n) k text ≡ onto t (row_of (thread_at n) (k + 1) rest)
-threads_more n k text t rest found = row_goes_on (thread_at n) thread_text (λ place. IsThread n) (thread_written n) (thread_read n) (λ place t is. thread_some t) k text t rest found
+threads_read = file_read IsThread (λ (t : Thread). t.key) thread_text thread_at thread_written thread_read thread_some
 
 pub threads_written : (n : ℕ) (file : Option Text) (ts : List Thread) → IsThreadFile n file ts → threads_in n (unwrap_or file []) ≡ Some ts
-threads_written n file ts is =
-    ap (threads_in n) is.spelled
-    ∙ only_there keys_rise (row_of (thread_at n) 0 (flat_map thread_text ts)) ts
-    (row_written (thread_at n) thread_text (λ place. IsThread n) (thread_written n) (thread_read n) (λ place t is. thread_some t) 0 ts (each_placed n 0 ts is.each)) is.sorted
+threads_written = file_written IsThread (λ (t : Thread). t.key) thread_text thread_at thread_written thread_read thread_some
 
 pub threads_exact : (n : ℕ) (file : Option Text) (ts : List Thread) → (threads_in n (unwrap_or file []) ≡ Some ts) ↔ IsThreadFile n file ts
-threads_exact n file ts = (threads_read n file ts, threads_written n file ts)
+threads_exact = file_exact IsThread (λ (t : Thread). t.key) thread_text thread_at thread_written thread_read thread_some
 
 pub threads_one : (n : ℕ) (file : Option Text) (ts us : List Thread) → IsThreadFile n file ts → IsThreadFile n file us → ts ≡ us
-threads_one n file ts us is other = one_some ts us (sym (threads_written n file ts is) ∙ threads_written n file us other)
+threads_one = file_one IsThread (λ (t : Thread). t.key) thread_text thread_at thread_written thread_read thread_some
+
+-- a thread file that was read has these threads, and one that wasn't read has none
+pub threads_found : (dir : Dir) (n : ℕ) (name : Name) (file : Option Text) (text : Text) (o : Option (List Thread)) (ts : List Thread) → name ≡ thread_name n → file ≡ dir name → text ≡ unwrap_or file [] → o ≡ threads_in n text → o ≡ Some ts
+    → IsThreadFile n (dir (thread_name n)) ts
+threads_found dir n name = there_read IsThread (λ (t : Thread). t.key) thread_text thread_at thread_written thread_read thread_some dir name (thread_name n) n
+
+pub threads_lost : (dir : Dir) (n : ℕ) (name : Name) (file : Option Text) (text : Text) (o : Option (List Thread)) → name ≡ thread_name n → file ≡ dir name → text ≡ unwrap_or file [] → o ≡ threads_in n text → o ≡ None
+    → (ts : List Thread) → ¬ IsThreadFile n (dir (thread_name n)) ts
+threads_lost dir n name = there_unread IsThread (λ (t : Thread). t.key) thread_text thread_at thread_written thread_read thread_some dir name (thread_name n) n

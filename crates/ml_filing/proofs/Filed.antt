@@ -5,9 +5,7 @@ use Rattle.std.specs.Cmp.{nat_cmp_is}
 use Rattle.std.specs.List.{AllByRecursion, enumerate_from, flat_map, list_all}
 use Rattle.std.specs.Option.{option_map}
 use Rattle.std.specs.Ordering.{nat_cmp, is_lt, eq_by_cmp}
-use Rattle.std.specs.declared.cmp.Ordering.{Ordering}
-use Rattle.std.specs.declared.cmp.Ordering.TheVariants.{Less, Equal, Greater}
-use Rattle.std.specs.FinMap.Entries.{by_order}
+use Rattle.std.specs.declared.cmp.Ordering.TheVariants.{Less}
 use Rattle.std.specs.Str.{bytes_eq}
 use Rattle.std.proofs.lemmas.Bool.{cases_lt, eqb-true, eqb-false, ne_eqb, le-leb, and_from}
 use Rattle.std.proofs.lemmas.Map.Text.{is_eq-slice_cmp}
@@ -16,8 +14,9 @@ use Rattle.ml_base.specs.Bytes.{Text}
 use Rattle.ml_base.specs.Dir.{Dir, with_puts}
 use Rattle.ml_base.specs.Name.{is_in_table}
 use Rattle.ml_base.specs.Ranges.{is_post_number}
-use Rattle.ml_base.specs.Sorted.{byte_cmp, entry_of, is_sorted, with_entry}
-use Rattle.ml_base.proofs.SortedLaws.{same_bytes, bytes_total, found_with, sorted_with}
+use Rattle.ml_base.specs.Sorted.{byte_cmp, entry_of, is_sorted}
+use Rattle.ml_base.proofs.SortedLaws.{same_bytes, bytes_total, found_with}
+use Rattle.ml_keyed.proofs.Exact.{text_added}
 use Rattle.ml_filing.specs.Appending.{append, next_number, next_post, CanAppend, with_number, append_puts}
 use Rattle.ml_filing.specs.Archive.{IsEntry, IsIndexFile, post_name, index_name, number_text, entry_text}
 use Rattle.ml_filing.specs.Posts.{Numbered, of_key, key_of, numbers, entry, index_of, post_at, IsPost}
@@ -73,16 +72,6 @@ same_test a b = is_eq-slice_cmp a b ∙ turned (bytes_eq b a) refl
         other : (u : Bool) → bytes_eq a b ≡ u → bytes_eq a b ≡ false
         other false e = e
         other true e = absurd (let bad : true ≡ false = sym ((bytes_eq-Decides b a).1 (sym ((bytes_eq-Decides a b).0 e))) ∙ is in cc)
-
--- what holds of all threads, and of one more, holds of the row with that one
-all_with : (P : Thread → Type 0) (t : Thread) (ts : List Thread) → P t → AllByRecursion P ts → AllByRecursion P (with_entry byte_cmp (λ (t : Thread). t.key) t ts)
-all_with P t [] is all = (is, tt)
-all_with P t (u ∷ us) is all = go (byte_cmp t.key u.key) (all_with P t us is all.1)
-  where
-    go : (o : Ordering) → AllByRecursion P (with_entry byte_cmp (λ (t : Thread). t.key) t us) → AllByRecursion P (by_order o (t ∷ u ∷ us) (t ∷ us) (u ∷ with_entry byte_cmp (λ (t : Thread). t.key) t us))
-    go Less more = (is, (all.0, all.1))
-    go Equal more = (is, all.1)
-    go Greater more = (all.0, more)
 
 module _ (dir : Dir) (prefix : Text) (posts : List Post) (p : Post) (threads : List Thread) (is : IsArchive dir prefix posts) (can : CanAppend posts p)
     (file : IsThreadFile (thread_place (key_of prefix p)) (dir (thread_name (thread_place (key_of prefix p)))) threads) where
@@ -149,11 +138,7 @@ module _ (dir : Dir) (prefix : Text) (posts : List Post) (p : Post) (threads : L
       }
 
   thread_file : IsThreadFile place (Some (flat_map thread_text (with_number k (next_number posts) threads))) (with_number k (next_number posts) threads)
-  thread_file = record {
-    each = all_with (IsThread place) thread threads thread_is file.each;
-    sorted = sorted_with byte_cmp (λ (t : Thread). t.key) same_bytes bytes_total thread threads file.sorted;
-    spelled = refl;
-  }
+  thread_file = text_added IsThread (λ (t : Thread). t.key) thread_text place (dir (thread_name place)) thread threads thread_is file
 
   abbrev all_threads : Bool → ℕ → List Thread
   all_threads here m = cond here (with_number k (next_number posts) threads) ((is.threaded).threads m)

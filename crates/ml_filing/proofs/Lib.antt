@@ -4,8 +4,6 @@ pub mod OneMore
 pub mod FoundThreads
 pub mod KeyLengths
 pub mod KeyTurns
-pub mod Parsed
-pub mod Rewritten
 pub mod Looking
 pub mod Rows
 pub mod Filed

@@ -10,14 +10,14 @@ use Rattle.ml_base.specs.Dir.{Dir}
 use Rattle.ml_base.specs.Name.{is_in_table}
 use Rattle.ml_base.specs.declared.names.Name.{Name}
 use Rattle.ml_rows.proofs.RowLaws.{one_some, none_some}
-use Rattle.ml_filing.specs.Answers.{IsNoNumber, IsNoIndex, IsNoThreads, IsOtherSize, IsEntryByFiles, HasNoEntry, IsBadForEntry, IsBadForPost, IsPostByFiles}
+use Rattle.ml_filing.specs.Answers.{IsNoNumber, IsNoIndex, IsOtherSize, IsEntryByFiles, HasNoEntry, IsBadForEntry, IsBadForPost, IsPostByFiles}
 use Rattle.ml_filing.specs.Archive.{ArePosts, IsIndexFile, IsNumberFile, post_name, index_name, number_name}
 use Rattle.ml_filing.specs.Posts.{index_of, entry, post_at}
-use Rattle.ml_filing.specs.Reading.{count_in, index_in, threads_in}
-use Rattle.ml_filing.specs.Threads.{Thread, IsThreadFile, entry_at, thread_name}
+use Rattle.ml_filing.specs.Reading.{count_in, index_in}
+use Rattle.ml_filing.specs.Threads.{entry_at}
 use Rattle.ml_filing.specs.declared.posts.Entry.{Entry}
 use Rattle.ml_filing.specs.declared.posts.Post.{Post}
-use Rattle.ml_filing.proofs.Exact.{count_read, count_one, count_written, index_read, index_one, index_written, threads_read, threads_written}
+use Rattle.ml_filing.proofs.Exact.{count_read, count_one, count_written, index_read, index_one, index_written}
 use Rattle.ml_filing.proofs.Represented.{looked_up, get_some, in_table}
 
 -- a file that is read spells its value, and one that isn't read spells none
@@ -42,16 +42,6 @@ pub index_lost : (dir : Dir) (g : ℕ) (name : Name) (file : Option Text) (text 
     → IsNoIndex dir g
 index_lost dir g name file text o named there is read none es fits =
     none_some es (sym none ∙ read ∙ ap (index_in g) is ∙ index_written g file es (subst (λ (f : Option Text). IsIndexFile g f es) (sym (there ∙ ap dir named)) fits))
-
-pub threads_found : (dir : Dir) (n : ℕ) (name : Name) (file : Option Text) (text : Text) (o : Option (List Thread)) (ts : List Thread) → name ≡ thread_name n → file ≡ dir name → text ≡ unwrap_or file [] → o ≡ threads_in n text → o ≡ Some ts
-    → IsThreadFile n (dir (thread_name n)) ts
-threads_found dir n name file text o ts named there is read some =
-    subst (λ (f : Option Text). IsThreadFile n f ts) (there ∙ ap dir named) (threads_read n file ts (ap (threads_in n) (sym is) ∙ sym read ∙ some))
-
-pub threads_lost : (dir : Dir) (n : ℕ) (name : Name) (file : Option Text) (text : Text) (o : Option (List Thread)) → name ≡ thread_name n → file ≡ dir name → text ≡ unwrap_or file [] → o ≡ threads_in n text → o ≡ None
-    → IsNoThreads dir n
-threads_lost dir n name file text o named there is read none ts fits =
-    none_some ts (sym none ∙ read ∙ ap (threads_in n) is ∙ threads_written n file ts (subst (λ (f : Option Text). IsThreadFile n f ts) (sym (there ∙ ap dir named)) fits))
 
 -- the entry that is found for a number has this number
 pub entry_named : (n : ℕ) (es : List Entry) (e : Entry) → entry_at n es ≡ Some e → e.number ≡ n

@@ -9,11 +9,12 @@ use Rattle.ml_base.specs.Bytes.{Text}
 use Rattle.ml_base.specs.Dir.{Dir}
 use Rattle.ml_base.specs.Name.{is_in_table}
 use Rattle.ml_base.specs.declared.names.Name.{Name}
+use Rattle.ml_keyed.proofs.Exact.{file_absent}
 use Rattle.ml_rows.proofs.RowLaws.{none_some}
 use Rattle.ml_filing.specs.Archive.{ArePosts, IsIndexFile, IsNumberFile, post_name, index_name, number_name, number_text, is_of_posts}
 use Rattle.ml_filing.specs.Posts.{index_of, entry, post_at}
 use Rattle.ml_filing.specs.Reading.{count_in, index_in, threads_in}
-use Rattle.ml_filing.specs.Threads.{IsArchive, IsThreadFile, thread_name, is_of_archive}
+use Rattle.ml_filing.specs.Threads.{Thread, IsArchive, IsThread, IsThreadFile, thread_name, thread_text, is_of_archive}
 use Rattle.ml_filing.specs.declared.posts.Entry.{Entry}
 use Rattle.ml_filing.specs.declared.posts.Post.{Post}
 use Rattle.ml_filing.proofs.Exact.{index_one, index_written, threads_written, count_one, count_written}
@@ -136,7 +137,7 @@ archive_nothing dir prefix none count = record {
   };
   threaded = record {
     threads = λ n. [];
-    files = λ n less. record { each = tt; sorted = refl; spelled = ap (λ (f : Option Text). unwrap_or f []) (none (thread_name n) refl (λ e. omega (arith, e))) };
+    files = λ n less. file_absent IsThread (λ (t : Thread). t.key) thread_text n (dir (thread_name n)) (none (thread_name n) refl (λ e. omega (arith, e)));
     by_key = λ k. refl;
   };
 }

@@ -1,8 +1,7 @@
 -- How a thread is looked up: the files it is read from, and what it is if they stand for an archive.
-use Rattle.std.proofs.Common.{◌≡◌, ◌<◌, ◌≤◌, ◌+◌, ◌/◌, ℕ, zero, suc, Bool, true, false, cond, ◌==◌, ◌||◌, List, [], ◌∷◌, length, take, slice_get, Option, Some, None, option_map, refl, sym, ap, ◌∙◌, subst, arith, ◌⊎◌, inl, inr}
+use Rattle.std.proofs.Common.{◌≡◌, ◌<◌, ◌≤◌, ◌+◌, ◌/◌, ℕ, zero, suc, Bool, true, false, ◌==◌, ◌||◌, List, [], ◌∷◌, length, take, slice_get, Option, Some, None, option_map, refl, sym, ap, ◌∙◌, subst, arith, ◌⊎◌, inl, inr}
 use Rattle.std.specs.Prelude.{unwrap_or}
 use Rattle.std.specs.List.{AllByRecursion, AllZip, IsAmong, list_any}
-use Rattle.std.specs.Ordering.{eq_by_cmp}
 use Rattle.std.specs.Str.{bytes_eq}
 use Rattle.std.proofs.lemmas.Bool.{eq-eqb, eqb-true, false≢true, or_left, or_right}
 use Rattle.std.proofs.lemmas.Nat.{div_below}
@@ -11,6 +10,7 @@ use Rattle.ml_base.specs.Cuts.{one_or_within}
 use Rattle.ml_base.specs.Dir.{Dir}
 use Rattle.ml_base.specs.Sorted.{byte_cmp, entry_of}
 use Rattle.ml_base.specs.declared.names.Name.{Name}
+use Rattle.ml_base.proofs.SortedLaws.{found_is}
 use Rattle.ml_rows.proofs.RowLaws.{one_some, none_some}
 use Rattle.ml_filing.specs.Answers.{AreSizes, HasNoEntry, IsBadForEntry, IsBadForKnown, IsBadForRow, IsBadForThread, IsBadThreads, IsEntryByFiles, IsKeyByFiles, IsPostName, IsRowByFiles, IsRowName, IsThreadName, IsWholeByFiles, LacksThread}
 use Rattle.ml_filing.specs.Archive.{IsIndexFile, IsNumberFile, index_name, number_name}
@@ -24,7 +24,6 @@ use Rattle.ml_filing.proofs.ByFiles.{IsOne, filtered_ones, threads_there}
 use Rattle.ml_filing.proofs.Exact.{at_most, index_one, index_written, threads_one}
 use Rattle.ml_filing.proofs.Looking.{entry_is, no_bad_index, no_missing, post_none}
 use Rattle.ml_filing.proofs.Ranged.{cut_sizes, sized_entries}
-use Rattle.ml_filing.proofs.Rewritten.{under_first}
 
 place_below : (k : Text) → thread_place k < 256
 place_below k = omega arith
@@ -56,14 +55,11 @@ among_taken (suc k) m (n ∷ ns) (suc i, is) =
 
 -- the numbers of threads are those that posts can have
 pub under_few : (f : ℕ) (k : Text) (ts : List Thread) → AllByRecursion (IsThread f) ts → AllByRecursion (λ m. m ≤ 99_999_999) (numbers_under k ts)
-under_few f k [] all = tt
-under_few f k (t ∷ ts) all =
-    subst (λ (ns : List ℕ). AllByRecursion (λ m. m ≤ 99_999_999) ns) (sym (under_first (eq_by_cmp byte_cmp k t.key) t (entry_of byte_cmp (λ (x : Thread). x.key) k ts)))
-    (go (eq_by_cmp byte_cmp k t.key) (at_most f t all.0) (under_few f k ts all.1))
+under_few f k ts all = go (entry_of byte_cmp (λ (t : Thread). t.key) k ts) refl
   where
-    go : (b : Bool) → AllByRecursion (λ m. m ≤ 99_999_999) t.numbers → AllByRecursion (λ m. m ≤ 99_999_999) (numbers_under k ts) → AllByRecursion (λ m. m ≤ 99_999_999) (cond b t.numbers (numbers_under k ts))
-    go true here more = here
-    go false here more = more
+    go : (o : Option Thread) → entry_of byte_cmp (λ (t : Thread). t.key) k ts ≡ o → AllByRecursion (λ m. m ≤ 99_999_999) (unwrap_or (option_map (λ (t : Thread). t.numbers) o) [])
+    go None found = tt
+    go (Some t) found = at_most f t (found_is byte_cmp (λ (t : Thread). t.key) (IsThread f) k t ts all found).0
 
 pub take_few : (k : ℕ) (ns : List ℕ) → AllByRecursion (λ m. m ≤ 99_999_999) ns → AllByRecursion (λ m. m ≤ 99_999_999) (take k ns)
 take_few zero ns all = tt

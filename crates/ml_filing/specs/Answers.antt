@@ -1,15 +1,11 @@
 -- What the calls on the archive answer from its files, and which files they name as damaged.
-use Rattle.std.specs.Prelude.{◌≡◌, ◌≢◌, ◌<◌, ◌≤◌, ◌+◌, ◌-◌, ◌*◌, ◌/◌, ◌==◌, min, max, ◌⊎◌, ℕ, Bool, true, not, List, [], ◌∷◌, length, map, take, Option, Some, None, unwrap_or, if◌then◌else◌}
-use Rattle.std.specs.declared.cmp.Ordering.{Ordering}
+use Rattle.std.specs.Prelude.{◌≡◌, ◌≢◌, ◌<◌, ◌≤◌, ◌+◌, ◌-◌, ◌*◌, ◌/◌, ◌==◌, min, max, ◌⊎◌, ℕ, Bool, List, [], length, map, take, Option, Some, None, unwrap_or}
 use Rattle.std.specs.Option.{option_map}
 use Rattle.std.specs.List.{AllByRecursion, AllZip, IsAmong, list_any, range_with_len}
-use Rattle.std.specs.Ordering.{is_lt}
-use Rattle.std.specs.Str.{bytes_eq}
 use Rattle.ml_base.specs.Bytes.{Text}
 use Rattle.ml_base.specs.Cuts.{one_or_within}
 use Rattle.ml_base.specs.Dir.{Dir, with_puts}
 use Rattle.ml_base.specs.declared.puts.Put.{Put}
-use Rattle.ml_base.specs.Sorted.{byte_cmp}
 use Rattle.ml_base.specs.declared.names.Name.{Name}
 use Rattle.ml_filing.specs.Archive.{IsIndexFile, IsNumberFile, post_name, index_name, number_name}
 use Rattle.ml_filing.specs.Appending.{append, next_number, append_puts}
@@ -21,22 +17,6 @@ use Rattle.ml_filing.specs.declared.posts.Appended.{Appended}
 use Rattle.ml_filing.specs.declared.posts.Appended.TheVariants.{At, Full}
 use Rattle.ml_filing.specs.declared.posts.Entry.{Entry}
 use Rattle.ml_filing.specs.declared.posts.Post.{Post}
-
-module _ {K E : Type 0} (order : K → K → Ordering) (key : E → K) where
-  -- whether a key is below that of the first of a row, if there is one
-  abbrev pub is_below_first : K → List E → Bool
-  is_below_first k [] = true
-  is_below_first k (e ∷ es) = is_lt (order k (key e))
-
--- whether the first of a row of threads, if there is one, isn't below a key
-abbrev pub is_from : Text → List Thread → Bool
-is_from k [] = true
-is_from k (t ∷ ts) = not (is_lt (byte_cmp t.key k))
-
--- the threads without the first, if that has this key
-abbrev pub past_key : Text → List Thread → List Thread
-past_key k [] = []
-past_key k (t ∷ ts) = if bytes_eq t.key k then ts else t ∷ ts
 
 -- files outside their grammar
 abbrev pub IsNoNumber : Dir → Type 0
@@ -138,6 +118,11 @@ AppendsTo dir prefix posts post Full = length posts ≡ 99_999_999
 abbrev pub puts_of : Appended → List Put
 puts_of (At number txn) = txn
 puts_of Full = []
+
+-- the number of an answer that has one
+abbrev pub number_of : Appended → ℕ
+number_of (At number txn) = number
+number_of Full = 0
 
 -- the next post gets this number, and its group's index has too few or too many entries of the posts before it
 abbrev pub HasOtherCount : Dir → ℕ → Type 0

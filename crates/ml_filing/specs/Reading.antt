@@ -6,7 +6,8 @@ use Rattle.std.specs.Ordering.{nat_cmp}
 use Rattle.ml_base.specs.Bytes.{Text, line_feed}
 use Rattle.ml_base.specs.Numbers.{moment_in, number_within}
 use Rattle.ml_base.specs.Ranges.{is_post_number}
-use Rattle.ml_base.specs.Sorted.{byte_cmp, is_sorted}
+use Rattle.ml_base.specs.Sorted.{is_sorted}
+use Rattle.ml_keyed.specs.Records.{records_in}
 use Rattle.ml_rows.specs.Rows.{only_if, both_of, row_of, netstrings_at}
 use Rattle.ml_rows.specs.Values.{address_in, line_number, comma_numbers}
 use Rattle.ml_filing.specs.Threads.{Thread, thread_place}
@@ -60,4 +61,4 @@ thread_at n place text = option_and_then (λ found. option_map (λ t. (t, found.
 
 -- the threads of the file with this number, in a row in ascending order of key
 abbrev pub threads_in : ℕ → Text → Option (List Thread)
-threads_in n text = only_if (is_sorted byte_cmp (λ t. t.key)) (row_of (thread_at n) 0 text)
+threads_in n text = records_in thread_at (λ t. t.key) n text

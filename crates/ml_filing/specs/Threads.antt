@@ -1,6 +1,6 @@
 -- The thread files: for every subject key the numbers of its posts, spread over 256 files by the key's hash.
 use Rattle.std.specs.Prelude.{◌≡◌, ◌<◌, ◌^◌, ◌%◌, ◌/◌, ◌==◌, ◌||◌, Bool, find, take, ℕ, true, IsTrue, List, [], ◌++◌, length, Option, unwrap_or, Some, map}
-use Rattle.std.specs.List.{flat_map, AllByRecursion, AllZip, IsAmong}
+use Rattle.std.specs.List.{AllByRecursion, AllZip, IsAmong}
 use Rattle.std.specs.Ordering.{nat_cmp}
 use Rattle.std.specs.Option.{option_map}
 use Rattle.ml_base.specs.Bytes.{Text}
@@ -10,6 +10,7 @@ use Rattle.ml_base.specs.Netstrings.{ns}
 use Rattle.ml_base.specs.Ranges.{is_post_number}
 use Rattle.ml_base.specs.Sorted.{byte_cmp, entry_of, is_sorted}
 use Rattle.ml_base.specs.declared.names.Name.{Name}
+use Rattle.ml_keyed.specs.Records.{IsRecordFile}
 use Rattle.ml_rows.specs.Values.{comma_text}
 use Rattle.ml_filing.specs.Posts.{key_of, of_key, numbers, post_at}
 use Rattle.ml_base.specs.Cuts.{one_or_within}
@@ -38,10 +39,8 @@ pub record IsThread (n : ℕ) (t : Thread) : Type 0 where
   pub ascending : is_sorted nat_cmp (λ m. m) t.numbers ≡ true
 
 -- a file of threads, in ascending order of key; an absent one has no threads
-pub record IsThreadFile (n : ℕ) (file : Option Text) (threads : List Thread) : Type 0 where
-  pub each : AllByRecursion (IsThread n) threads
-  pub sorted : is_sorted byte_cmp (λ t. t.key) threads ≡ true
-  pub spelled : unwrap_or file [] ≡ flat_map thread_text threads
+abbrev pub IsThreadFile : ℕ → Option Text → List Thread → Type 0
+IsThreadFile n file threads = IsRecordFile IsThread (λ t. t.key) thread_text n file threads
 
 -- the numbers that threads have under a key
 abbrev pub numbers_under : Text → List Thread → List ℕ

@@ -11,9 +11,9 @@ ghost use Rattle.ml_filing.specs.Threads as threads;
 
 use crate::index_reader::index_of;
 use crate::numbers::count_of;
-use crate::threads::read_threads;
 use crate::{Entries, Threads};
 use ml_base::{Bytes, Files, Name, PartError};
+use ml_keyed::read_file;
 use std::alloc::Global;
 
 // The bytes of a file, or no bytes if it is absent.
@@ -72,7 +72,7 @@ pub(crate) fn read_thread_file<F: Files>(
 {
     let name = Name::threads(n);
     let file = files.get(alloc, name)?;
-    match read_threads(alloc, n, text_of(&file))? {
+    match read_file(alloc, n, text_of(&file))? {
         Some(threads) => Ok(threads),
         None => Err(PartError::Damaged(name)),
     }

@@ -22,3 +22,4 @@ pub use posts::{Appended, Entries, Entry, Post, Thread, Threads};
 pub use ranges::range;
 pub use subjects::{subject, subject_key};
 pub use thread_lookups::{thread, thread_file, whole_thread};
+pub use threads::thread_place_of;

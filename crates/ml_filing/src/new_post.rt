@@ -5,7 +5,7 @@ ghost use Rattle.ml_base.specs.Name.{is_file};
 ghost use Rattle.ml_base.specs.PartErrors.{OnDamaged};
 ghost use Rattle.ml_base.specs.Ranges.{IsMoment};
 ghost use Rattle.ml_base.specs.ReadFiles.{IsReading, NamesDamaged};
-ghost use Rattle.ml_filing.specs.Answers.{HasEntriesBefore, IsAppendName, IsBadForAppend, IsBadForNext, IsAppended, AppendsTo, ReadsAlike, new_post, puts_of};
+ghost use Rattle.ml_filing.specs.Answers.{HasEntriesBefore, IsAppendName, IsBadForAppend, IsBadForNext, IsAppended, AppendsTo, ReadsAlike, new_post, number_of, puts_of};
 ghost use Rattle.ml_filing.specs.Appending.{key_puts};
 ghost use Rattle.ml_filing.specs.Archive as archive;
 ghost use Rattle.ml_filing.specs.Reads.{IsOfNext};
@@ -17,7 +17,7 @@ use crate::files::{read_count, read_thread_file, text_of};
 use crate::index_reader::{first_number, index_of, push_entry};
 use crate::numbers::count_text;
 use crate::subjects::{subject, subject_key};
-use crate::threads::{place_of, text_with_number};
+use crate::threads::{text_with_number, thread_place_of};
 use crate::{Appended, Thread};
 use ml_base::{Address, Bytes, Files, LAST_POST_NUMBER, Name, PartError, Put, Txn};
 use ml_header::Message;
@@ -88,7 +88,7 @@ fn puts(
     txn.push(written(Name::post(number), Bytes::from_slice(alloc, new.bytes)?))?;
     txn.push(written(Name::index(number / 100), index))?;
     txn.push(written(Name::NUMBER, count_text(alloc, number)?))?;
-    txn.push(written(Name::threads(place_of(key)), text))?;
+    txn.push(written(Name::threads(thread_place_of(key)), text))?;
     Ok(txn)
 }
 
@@ -110,6 +110,7 @@ pub fn append<F: Files>(
     requires size { length bytes.now < 4_294_967_296 }
     ensures value { IsTrue F.tells → IfOk result (λ answer. (dir : Dir) (posts : List ThePost) → IsArchive dir prefix.now posts → ReadsAlike (F.map files.old) dir prefix.now (new_post sender.now moment bytes.now) posts → AppendsTo dir prefix.now posts (new_post sender.now moment bytes.now) answer) }
     ensures read { IsTrue F.tells → IfOk result (IsAppended (F.map files.old) prefix.now (new_post sender.now moment bytes.now)) }
+    ensures few { IfOk result (λ answer. number_of answer ≤ 99_999_999) }
     ensures others { IfOk result (λ answer. touches_only is_of_archive (puts_of answer) ≡ true) }
     ensures files { IfOk result (λ answer. touches_only is_file (puts_of answer) ≡ true) }
     ensures names { NamesDamaged ⟦<F as Files>⟧ IsAppendName (λ name. IsBadForAppend (F.map files.old) name × IsOfNext (F.map files.old) (subjects.subject_key prefix.now (subjects.subject bytes.now)) name) result }
@@ -124,7 +125,7 @@ pub fn append<F: Files>(
     let subject = subject(alloc, &Message::scan(bytes))?;
     let key = subject_key(alloc, prefix, subject.as_slice())?;
     let index = next_index(alloc, files, number)?;
-    let threads = read_thread_file(alloc, files, place_of(key.as_slice()))?;
+    let threads = read_thread_file(alloc, files, thread_place_of(key.as_slice()))?;
     let new = New {
         sender: sender.bytes(),
         moment,

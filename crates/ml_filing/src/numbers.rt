@@ -2,16 +2,16 @@
 ghost use Rattle.std.specs.Prelude.{◌≡◌, IfOk, true};
 ghost use Rattle.std.specs.Ordering.{nat_cmp};
 ghost use Rattle.ml_base.specs.Sorted.{is_sorted};
+ghost use Rattle.ml_keyed.specs.Records as records;
 ghost use Rattle.ml_filing.specs.Archive.{number_text};
 ghost use Rattle.ml_filing.specs.Reading.{count_in};
-ghost use Rattle.ml_filing.specs.Answers as answers;
 
 use ml_base::{Bytes, LAST_POST_NUMBER, number_within, split_first};
 use std::alloc::{AllocError, Global};
 
 // Whether a number is below the first of some others.
 fn is_below_first(number: u64, numbers: &[u64]) -> bool
-    ensures { result ≡ answers.is_below_first nat_cmp (λ m. m) number numbers.now }
+    ensures { result ≡ records.is_below_first nat_cmp (λ m. m) number numbers.now }
 {
     match numbers {
         [] => true,

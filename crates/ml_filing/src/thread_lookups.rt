@@ -15,7 +15,7 @@ ghost use Rattle.ml_filing.specs.declared.posts.Post.{Post as ThePost};
 use crate::files::{read_count, read_thread_file};
 use crate::lookups::{Indexes, cut_by, entry_among, read_once, sizes_of};
 use crate::subjects::subject_key;
-use crate::threads::{numbers_for, place_of};
+use crate::threads::{numbers_for, thread_place_of};
 use crate::{Thread, Threads};
 use ml_base::{Bytes, Files, MAX_POSTS, Name, Numbers, PartError};
 use std::alloc::Global;
@@ -61,7 +61,7 @@ fn numbers_with<F: Files>(
     ensures names { NamesDamaged ⟦<F as Files>⟧ (λ name. name ≡ threads.thread_name (thread_place key.now)) (λ _. IsBadThreads (F.map files.old) key.now n) result }
     ensures reads { IsReading ⟦<F as Files>⟧ files.old files.new result }
 {
-    let place = place_of(key);
+    let place = thread_place_of(key);
     let threads = read_thread_file(alloc, files, place)?;
     let numbers = numbers_for(threads.as_slice(), key);
     if !has_number(numbers, n) {
@@ -100,7 +100,7 @@ fn known_thread<F: Files>(
     let mut indexes = Indexes::new(alloc);
     let key = key_for(alloc, files, &mut indexes, prefix, n)?;
     let row = row_for(alloc, files, key.as_slice(), n)?;
-    let missing = Name::threads(place_of(key.as_slice()));
+    let missing = Name::threads(thread_place_of(key.as_slice()));
     let sizes = sizes_of(alloc, files, &mut indexes, row.as_slice(), missing)?;
     Ok(cut_by(alloc, row.as_slice(), sizes.as_slice())?)
 }

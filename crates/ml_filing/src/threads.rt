@@ -1,26 +1,22 @@
 // Reads and writes thread files: the numbers of posts under each subject key.
-ghost use Rattle.std.specs.Prelude.{◌≡◌, ◌<◌, ◌%◌, true, false, ℕ, IsTrue, [], ◌∷◌, ◌++◌, length, Some, None, IfOk, IfSome, IfNone, OnOk};
+ghost use Rattle.std.specs.Prelude.{◌≡◌, ◌<◌, ◌%◌, ℕ, IsTrue, [], ◌∷◌, ◌++◌, length, Some, None, IfOk, IfSome, IfNone};
 ghost use Rattle.std.specs.List.{flat_map, list_all};
-ghost use Rattle.std.specs.Option.{option_map};
-ghost use Rattle.std.specs.Ordering.{is_lt};
 ghost use Rattle.ml_base.specs.Ranges as ranges;
-ghost use Rattle.ml_base.specs.Sorted.{byte_cmp, is_sorted, with_entry};
-ghost use Rattle.ml_rows.specs.Rows.{netstrings_at, row_of};
-ghost use Rattle.ml_filing.specs.Answers as answers;
+ghost use Rattle.ml_rows.specs.Rows.{netstrings_at};
 ghost use Rattle.ml_filing.specs.Appending.{with_number};
-ghost use Rattle.ml_filing.specs.Reading.{thread_of_fields, thread_at, threads_in};
+ghost use Rattle.ml_filing.specs.Reading.{thread_of_fields, thread_at};
 ghost use Rattle.ml_filing.specs.Reading as spec;
 ghost use Rattle.ml_filing.specs.Threads.{thread_text, thread_place, numbers_under};
 
+use crate::Thread;
 use crate::numbers::are_rising;
-use crate::{Thread, Threads};
 use ml_base::{Bytes, Numbers, hash, is_post_number, push_netstring, split_netstring};
+use ml_keyed::{Keyed, find, text_with};
 use ml_rows::{numbers_of, push_numbers};
 use std::alloc::{AllocError, Global};
-use std::cmp::Ordering;
 
-// The number of the file that has a key.
-pub(crate) fn place_of(key: &[u8]) -> u8
+/// The number of the thread file that has a key: 0 to 255. It takes no memory.
+pub fn thread_place_of(key: &[u8]) -> u8
     ensures { result ≡ thread_place key.now }
 {
     (hash(key) % 256) as u8
@@ -37,7 +33,10 @@ fn are_post_numbers(numbers: &[u64]) -> bool
 fn fits(n: u8, key: &[u8], numbers: &[u64]) -> bool
     ensures { result ≡ spec.fits n (record { key = key.now; numbers = numbers.now }) }
 {
-    place_of(key) == n && !numbers.is_empty() && are_post_numbers(numbers) && are_rising(numbers)
+    thread_place_of(key) == n
+        && !numbers.is_empty()
+        && are_post_numbers(numbers)
+        && are_rising(numbers)
 }
 
 // The thread that two texts spell, if it belongs to the file with this number.
@@ -65,67 +64,32 @@ fn texts_of(text: &[u8]) -> Option<(&[u8], &[u8], &[u8])>
     Some((key, numbers, rest))
 }
 
-// The threads that a text spells one after another.
-fn threads_of(alloc: Global, n: u8, text: &[u8]) -> Result<Option<Threads>, AllocError>
-    ensures { IfOk result (λ r. r ≡ row_of (thread_at n) 0 text.now) }
-{
-    let mut out = Threads::new(alloc);
-    let mut rest = text;
-    while !rest.is_empty() {
-        let Some((key, numbers, more)) = texts_of(rest) else {
+impl Keyed for Thread {
+    ghost key_of = { λ t. t.key };
+
+    ghost spelling = { thread_text };
+
+    ghost record_at = { thread_at };
+
+    fn key(&self) -> &[u8] {
+        self.key.as_slice()
+    }
+
+    fn push(&self, alloc: Global, out: &mut Bytes) -> Result<(), AllocError> {
+        let mut numbers = Bytes::new(alloc);
+        push_numbers(&mut numbers, self.numbers.as_slice())?;
+        push_netstring(out, self.key.as_slice())?;
+        push_netstring(out, numbers.as_slice())
+    }
+
+    fn read(alloc: Global, n: u8, text: &[u8]) -> Result<Option<(Thread, &[u8])>, AllocError> {
+        let Some((key, numbers, rest)) = texts_of(text) else {
             return Ok(None);
         };
-        let Some(thread) = thread_of(alloc, n, key, numbers)? else {
-            return Ok(None);
-        };
-        out.push(thread)?;
-        rest = more;
-    }
-    Ok(Some(out))
-}
-
-// Whether a text comes before another in the order of bytes.
-fn is_before(a: &[u8], b: &[u8]) -> bool
-    ensures { result ≡ is_lt (byte_cmp a.now b.now) }
-{
-    a.cmp(b) == Ordering::Less
-}
-
-// Whether a key is below that of the first of some threads.
-fn is_below_first(key: &[u8], threads: &[Thread]) -> bool
-    ensures { result ≡ answers.is_below_first byte_cmp (λ t. t.key) key.now threads.now }
-{
-    match threads {
-        [] => true,
-        [first, ..] => is_before(key, first.key.as_slice()),
-    }
-}
-
-// Whether the keys of threads are in ascending order.
-fn keys_rise(threads: &[Thread]) -> bool
-    ensures { result ≡ is_sorted byte_cmp (λ t. t.key) threads.now }
-{
-    let mut rest = threads;
-    while let [first, more @ ..] = rest {
-        if !is_below_first(first.key.as_slice(), more) {
-            return false;
+        match thread_of(alloc, n, key, numbers)? {
+            Some(thread) => Ok(Some((thread, rest))),
+            None => Ok(None),
         }
-        rest = more;
-    }
-    true
-}
-
-// The threads of the file with this number, or None if the text is no such file.
-pub(crate) fn read_threads(alloc: Global, n: u8, text: &[u8]) -> Result<Option<Threads>, AllocError>
-    ensures { IfOk result (λ r. r ≡ threads_in n text.now) }
-{
-    let Some(threads) = threads_of(alloc, n, text)? else {
-        return Ok(None);
-    };
-    if keys_rise(threads.as_slice()) {
-        Ok(Some(threads))
-    } else {
-        Ok(None)
     }
 }
 
@@ -133,64 +97,9 @@ pub(crate) fn read_threads(alloc: Global, n: u8, text: &[u8]) -> Result<Option<T
 pub(crate) fn numbers_for<'a>(threads: &'a [Thread], key: &[u8]) -> &'a [u64]
     ensures { result.now ≡ numbers_under key.now threads.now }
 {
-    let mut rest = threads;
-    while let [first, more @ ..] = rest {
-        if key == first.key.as_slice() {
-            return first.numbers.as_slice();
-        }
-        rest = more;
-    }
-    &[]
-}
-
-// Adds a thread.
-fn push_thread(alloc: Global, out: &mut Bytes, thread: &Thread) -> Result<(), AllocError>
-    ensures { OnOk result (out.new ≡ out.old ++ thread_text thread.now) }
-{
-    let mut numbers = Bytes::new(alloc);
-    push_numbers(&mut numbers, thread.numbers.as_slice())?;
-    push_netstring(out, thread.key.as_slice())?;
-    push_netstring(out, numbers.as_slice())
-}
-
-// Adds threads.
-fn push_threads(alloc: Global, out: &mut Bytes, threads: &[Thread]) -> Result<(), AllocError>
-    ensures { OnOk result (out.new ≡ out.old ++ flat_map thread_text threads.now) }
-{
-    let mut rest = threads;
-    while let [first, more @ ..] = rest {
-        push_thread(alloc, out, first)?;
-        rest = more;
-    }
-    Ok(())
-}
-
-// The first of some threads and those after it, if its key is below another.
-fn next_below<'a>(threads: &'a [Thread], key: &[u8]) -> Option<(&'a Thread, &'a [Thread])>
-    ensures some { IfSome result (λ r. (threads.now ≡ r.0.now ∷ r.1.now) × (is_lt (byte_cmp r.0.now.key key.now) ≡ true)) }
-    ensures none { IfNone result (answers.is_from key.now threads.now ≡ true) }
-{
-    let [first, more @ ..] = threads else {
-        return None;
-    };
-    if is_before(first.key.as_slice(), key) {
-        Some((first, more))
-    } else {
-        None
-    }
-}
-
-// The threads without the first, if that has this key.
-fn after<'a>(threads: &'a [Thread], key: &[u8]) -> &'a [Thread]
-    ensures { result.now ≡ answers.past_key key.now threads.now }
-{
-    let [first, more @ ..] = threads else {
-        return threads;
-    };
-    if first.key.as_slice() == key {
-        more
-    } else {
-        threads
+    match find(threads, key) {
+        Some(thread) => thread.numbers.as_slice(),
+        None => &[],
     }
 }
 
@@ -204,22 +113,6 @@ fn longer(alloc: Global, threads: &[Thread], key: &[u8], number: u64) -> Result<
         key: Bytes::from_slice(alloc, key)?,
         numbers: Numbers::from_vec(numbers),
     })
-}
-
-// The text of threads with this one, in the place of the one with its key.
-fn text_with(alloc: Global, threads: &[Thread], thread: &Thread) -> Result<Bytes, AllocError>
-    ensures { IfOk result (λ text. text ≡ flat_map thread_text (with_entry byte_cmp (λ t. t.key) thread.now threads.now)) }
-{
-    let key = thread.key.as_slice();
-    let mut out = Bytes::new(alloc);
-    let mut rest = threads;
-    while let Some((first, more)) = next_below(rest, key) {
-        push_thread(alloc, &mut out, first)?;
-        rest = more;
-    }
-    push_thread(alloc, &mut out, thread)?;
-    push_threads(alloc, &mut out, after(rest, key))?;
-    Ok(out)
 }
 
 // The text of threads with one more number under a key, after those that are there.

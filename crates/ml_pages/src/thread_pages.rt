@@ -1,11 +1,10 @@
 // Makes the pages of threads.
-ghost use Rattle.std.specs.Prelude.{◌≡◌, ◌≤◌, ◌%◌, List, Option, IsTrue, IfOk, IfErr};
+ghost use Rattle.std.specs.Prelude.{◌≡◌, ◌≤◌, List, Option, IsTrue, IfOk, IfErr};
 ghost use Rattle.std.specs.List.{AllByRecursion, flat_map};
 ghost use Rattle.ml_base.specs.PartErrors.{OnDamaged};
 ghost use Rattle.ml_base.specs.ReadFiles.{IsReading, NamesDamaged};
 ghost use Rattle.ml_filing.specs.Answers.{AreIndexes, IsBadForRow, IsBadForThread, IsRowName, IsThreadName, IsWholeAnswer};
 ghost use Rattle.ml_filing.specs.Archive.{ArePosts};
-ghost use Rattle.ml_filing.specs.Threads as threads;
 ghost use Rattle.ml_filing.specs.Threads.{IsArchive};
 ghost use Rattle.ml_filing.specs.declared.posts.Post.{Post as ThePost};
 ghost use Rattle.ml_filing.specs.declared.posts.Thread.{Thread as TheThread};
@@ -15,17 +14,10 @@ ghost use Rattle.ml_pages.specs.Parts.{IsPageFound, line_at, page_around};
 
 use crate::month_pages::PAGE_LEN;
 use crate::texts::{page_text, push_post, thread_title};
-use ml_base::{Bytes, Files, Name, PartError, hash};
+use ml_base::{Bytes, Files, Name, PartError};
 use ml_config::Config;
-use ml_filing::{Indexes, entry_among, read_alone, whole_thread};
+use ml_filing::{Indexes, entry_among, read_alone, thread_place_of, whole_thread};
 use std::alloc::{AllocError, Global};
-
-// The thread file of a key.
-fn thread_name(key: &[u8]) -> Name
-    ensures { result ≡ threads.thread_name (threads.thread_place key.now) }
-{
-    Name::threads((hash(key) % 256) as u8)
-}
 
 // Whether a number is the first of these.
 fn is_first(number: u64, numbers: &[u64]) -> bool
@@ -117,7 +109,7 @@ pub fn thread_page<F: Files>(
     if numbers.is_empty() {
         return Ok(None);
     }
-    let missing = thread_name(thread.key.as_slice());
+    let missing = Name::threads(thread_place_of(thread.key.as_slice()));
     let lines = thread_lines(alloc, files, &mut indexes, numbers, missing)?;
     Ok(Some(thread_text(alloc, config, first, lines.as_slice())?))
 }

@@ -21,11 +21,6 @@ Publishes dir now sender m p (At number txn) =
     (is_archive_full p ≡ false) × (number ≡ length p.posts + 1) × IsList (with_puts dir txn) (with_text now sender (sent_text p.config m) number p)
 Publishes dir now sender m p Full = is_archive_full p ≡ true
 
--- the number of an answer that has one
-abbrev pub number_of : Appended → ℕ
-number_of (At number txn) = number
-number_of Full = 0
-
 -- all files except the held posts
 abbrev pub is_beside_held : Name → Bool
 is_beside_held name = not (held_kinds name.kind)

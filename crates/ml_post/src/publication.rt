@@ -4,7 +4,7 @@ ghost use Rattle.ml_base.specs.Dir.{Dir, are_files, touches_only, with_puts};
 ghost use Rattle.ml_base.specs.PartErrors.{OnDamaged};
 ghost use Rattle.ml_base.specs.ReadFiles.{IsReading, NamesDamaged};
 ghost use Rattle.ml_base.specs.declared.names.Set.TheVariants as sets;
-ghost use Rattle.ml_filing.specs.Answers.{puts_of};
+ghost use Rattle.ml_filing.specs.Answers.{number_of, puts_of};
 ghost use Rattle.ml_filing.specs.Threads.{is_of_archive};
 ghost use Rattle.ml_plain.specs.Directory.{IsList};
 ghost use Rattle.ml_plain.specs.Mailing as mailing;
@@ -16,7 +16,7 @@ ghost use Rattle.ml_acts.specs.Doing.{Alike, HasIds, is_mailed_by, is_of_posting
 ghost use Rattle.ml_acts.specs.Found.{AddsMailToSet, QueuesToSet};
 ghost use Rattle.ml_post.specs.Alike.{AlikeToPublish};
 ghost use Rattle.ml_post.specs.Found.{FoundToPublish};
-ghost use Rattle.ml_post.specs.Publishing.{Publishes, is_published_by, number_of, sent_key};
+ghost use Rattle.ml_post.specs.Publishing.{Publishes, is_published_by, sent_key};
 
 use crate::outgoing_text::sent_text;
 use ml_acts::{MailMemo, Moment, post_path, send_to_list};

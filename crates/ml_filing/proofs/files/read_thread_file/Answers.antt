@@ -1,7 +1,6 @@
 use Rattle.std.proofs.Common.{◌∙◌, ap, sym}
 use Rattle.ml_filing.specs.Reading.{threads_in}
-use Rattle.ml_filing.proofs.Exact.{threads_read}
-use Rattle.ml_filing.proofs.Looking.{threads_found, threads_lost}
+use Rattle.ml_filing.proofs.Exact.{threads_found, threads_lost, threads_read}
 use Rattle.ml_filing.proofs.files.read_thread_file.Goals as goal
 
 pub returns-in-Some-clause-value : goal.returns-in-Some-clause-value

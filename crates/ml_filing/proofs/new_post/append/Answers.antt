@@ -86,7 +86,7 @@ returns-in_err-threads-clause-names g c =
     let key = subject_key c.args.prefix.now (subject c.args.bytes.now) in
     let place : ℕ = thread_place key in
     let key_is : c.in_ok-key.key ≡ key = c.in_ok-key.ensures ∙ ap (subject_key c.args.prefix.now) (c.as_slice.ensures ∙ c.in_ok-subject.ensures.value ∙ ap subject c.scan.ensures) in
-    let place_is : c.place_of.result ≡ place = c.place_of.ensures ∙ ap thread_place (c.as_slice-2.ensures ∙ key_is) in
+    let place_is : c.thread_place_of.result ≡ place = c.thread_place_of.ensures ∙ ap thread_place (c.as_slice-2.ensures ∙ key_is) in
     let less : place < 256 = mod_below (hash_of key) 256 (omega arith) in
     let named : OnDamaged e (λ name. name ≡ thread_name place) = subst (λ (p : ℕ). OnDamaged e (λ name. name ≡ thread_name p)) place_is failed.named in
     record {
@@ -96,7 +96,7 @@ returns-in_err-threads-clause-names g c =
           let first = g.met.F.Files.kept_map c.args.files.now c.read_count.new.files told c.read_count.ensures.reads.kept in
           let second = g.met.F.Files.kept_map c.read_count.new.files c.next_index.new.files told c.next_index.ensures.reads.kept ∙ first in
           let none : OnDamaged e (λ _. IsNoThreads dir place) =
-          subst (λ (p : ℕ). OnDamaged e (λ _. IsNoThreads dir p)) place_is (subst (λ (d : Dir). OnDamaged e (λ _. IsNoThreads d c.place_of.result)) second (failed.damaged told)) in
+          subst (λ (p : ℕ). OnDamaged e (λ _. IsNoThreads dir p)) place_is (subst (λ (d : Dir). OnDamaged e (λ _. IsNoThreads d c.thread_place_of.result)) second (failed.damaged told)) in
           let bad : OnDamaged e (λ name. IsBadForAppend dir name × IsOfNext dir key name) =
           on_both e (λ name. name ≡ thread_name place) (λ _. IsNoThreads dir place) (λ name. IsBadForAppend dir name × IsOfNext dir key name) (λ name is no. (inr (inr (place, less, is, no)), inr (inr is))) named none in
           search rules;
@@ -129,9 +129,9 @@ returns-clause-read g c told =
     let threads = c.in_ok-threads.threads in
     let subject_is : c.in_ok-subject.subject ≡ subjects.subject c.args.bytes.now = c.in_ok-subject.ensures.value ∙ ap subjects.subject c.scan.ensures in
     let key_is : c.in_ok-key.key ≡ key_of c.args.prefix.now post = c.in_ok-key.ensures ∙ ap (subjects.subject_key c.args.prefix.now) (c.as_slice.ensures ∙ subject_is) in
-    let place_is : c.place_of.result ≡ thread_place (key_of c.args.prefix.now post) = c.place_of.ensures ∙ ap thread_place (c.as_slice-2.ensures ∙ key_is) in
+    let place_is : c.thread_place_of.result ≡ thread_place (key_of c.args.prefix.now post) = c.thread_place_of.ensures ∙ ap thread_place (c.as_slice-2.ensures ∙ key_is) in
     let index_is : c.in_ok-index.index ≡ unwrap_or (old (index_name (n / 100))) [] = c.in_ok-index.ensures.value told ∙ ap (λ (d : Dir). unwrap_or (d (index_name (n / 100))) []) first in
-    let file = subst (λ (p : ℕ). IsThreadFile p (old (thread_name p)) threads) place_is (subst (λ (d : Dir). IsThreadFile c.place_of.result (d (thread_name c.place_of.result)) threads) second (c.in_ok-threads.ensures.value told)) in
+    let file = subst (λ (p : ℕ). IsThreadFile p (old (thread_name p)) threads) place_is (subst (λ (d : Dir). IsThreadFile c.thread_place_of.result (d (thread_name c.thread_place_of.result)) threads) second (c.in_ok-threads.ensures.value told)) in
     let made : Post = record { sender = c.bytes.result.now; moment = c.args.moment; subject = c.as_slice-3.result.now; bytes = c.args.bytes.now } in
     let made_is : made ≡ post = ap₂ (λ (a s : Text). record { sender = a; moment = c.args.moment; subject = s; bytes = c.args.bytes.now }) c.bytes.ensures.value (c.as_slice-3.ensures ∙ subject_is) in (
       c.in_ok-count.count,

@@ -15,4 +15,4 @@ returns c =
     (put_is c.written.result c.post.result (post_name n) c.in_ok-from_slice.field-0 new.bytes.now c.written.ensures c.post.ensures.name c.in_ok-from_slice.ensures)
     (put_is c.written-2.result c.index-2.result (index_name (n / 100)) c.push_entry.new.out _ c.written-2.ensures c.index-2.ensures.name (c.in_ok-push_entry.ensures ∙ entry_on c.args.index e))
     (put_is c.written-3.result number_name number_name c.in_ok-count_text.field-0 _ c.written-3.ensures refl c.in_ok-count_text.ensures)
-    (put_is c.written-4.result c.threads.result (thread_name (thread_place c.args.key.now)) c.in_ok-text.text _ c.written-4.ensures (c.threads.ensures.name ∙ ap thread_name c.place_of.ensures) c.in_ok-text.ensures)
+    (put_is c.written-4.result c.threads.result (thread_name (thread_place c.args.key.now)) c.in_ok-text.text _ c.written-4.ensures (c.threads.ensures.name ∙ ap thread_name c.thread_place_of.ensures) c.in_ok-text.ensures)

@@ -42,7 +42,7 @@ returns-in_err-sizes-clause-names g c =
     let prefix = c.args.prefix.now in
     let row = c.as_slice-3.result.now in
     let missing = c.threads-missing.result in
-    let missing_is : missing ≡ thread_name (thread_place k) = c.threads-missing.ensures.name ∙ ap thread_name (c.place_of.ensures ∙ ap thread_place (c.as_slice-2.ensures ∙ sym c.as_slice.ensures)) in
+    let missing_is : missing ≡ thread_name (thread_place k) = c.threads-missing.ensures.name ∙ ap thread_name (c.thread_place_of.ensures ∙ ap thread_place (c.as_slice-2.ensures ∙ sym c.as_slice.ensures)) in
     record {
       named = let own : OnDamaged e IsThreadName = on_damaged e (IsOfRow missing row) IsThreadName (λ name is. row_files k row missing name missing_is is) failed.named in search rules;
       damaged = λ told.

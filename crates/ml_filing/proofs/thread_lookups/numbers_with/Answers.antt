@@ -13,7 +13,7 @@ returns-in_err-threads-clause-names g c =
     let e = c.in_err-threads.field-0.0 in
     let failed = c.in_err-threads.ensures.names in
     let k = c.args.key.now in
-    let place_is = c.place_of-place.ensures in
+    let place_is = c.thread_place_of-place.ensures in
     record {
       named = let own : OnDamaged e (λ name. name ≡ thread_name (thread_place k)) = subst (λ (p : ℕ). OnDamaged e (λ name. name ≡ thread_name p)) place_is failed.named in search rules;
       damaged = λ told.
@@ -30,7 +30,7 @@ returns-clause-value g c told =
     let numbers = c.numbers_for-numbers.result.now in
     let under : numbers ≡ numbers_under k c.in_ok-threads.threads = c.numbers_for-numbers.ensures ∙ ap (numbers_under k) c.as_slice.ensures in (
       c.in_ok-threads.threads,
-      subst (λ (p : ℕ). IsThreadFile p (dir (thread_name p)) c.in_ok-threads.threads) c.place_of-place.ensures (c.in_ok-threads.ensures.value told),
+      subst (λ (p : ℕ). IsThreadFile p (dir (thread_name p)) c.in_ok-threads.threads) c.thread_place_of-place.ensures (c.in_ok-threads.ensures.value told),
       subst (λ (ns : List ℕ). IsAmong ns c.args.n) under (any_among c.args.n numbers (sym c.has_number.ensures ∙ c.if-not-has_number.false)),
       c.from_vec.ensures ∙ c.in_ok-from_slice.ensures.items ∙ under,
     )
@@ -41,12 +41,12 @@ returns-clause-few g c =
     let numbers = c.numbers_for-numbers.result.now in
     let under : numbers ≡ numbers_under k c.in_ok-threads.threads = c.numbers_for-numbers.ensures ∙ ap (numbers_under k) c.as_slice.ensures in
     subst (λ (ns : List ℕ). AllByRecursion (λ m. m ≤ 99_999_999) ns) (sym (c.from_vec.ensures ∙ c.in_ok-from_slice.ensures.items ∙ under))
-    (under_few c.place_of-place.result k c.in_ok-threads.threads c.in_ok-threads.ensures.each)
+    (under_few c.thread_place_of-place.result k c.in_ok-threads.threads c.in_ok-threads.ensures.each)
 
 pub returns-then-not-has_number-clause-names : goal.returns-then-not-has_number-clause-names
 returns-then-not-has_number-clause-names g c =
     let k = c.args.key.now in
-    let place_is = c.place_of-place.ensures in
+    let place_is = c.thread_place_of-place.ensures in
     let numbers = c.numbers_for-numbers.result.now in
     let under : numbers ≡ numbers_under k c.in_ok-threads.threads = c.numbers_for-numbers.ensures ∙ ap (numbers_under k) c.as_slice.ensures in
     record {

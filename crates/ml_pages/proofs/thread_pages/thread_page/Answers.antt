@@ -61,8 +61,8 @@ returns-in_err-lines-clause-names g c =
     let page = c.args.page in
     let row = c.on_page-numbers.result.now in
     let cut : row ≡ on_page page t.numbers = c.on_page-numbers.ensures ∙ ap (on_page page) c.as_slice-3.ensures in
-    let missing = c.thread_name-missing.result in
-    let missing_is : missing ≡ thread_name (thread_place t.key) = c.thread_name-missing.ensures ∙ ap (λ (k : Text). thread_name (thread_place k)) c.as_slice-4.ensures in
+    let missing = c.threads-missing.result in
+    let missing_is : missing ≡ thread_name (thread_place t.key) = c.threads-missing.ensures.name ∙ ap thread_name (c.thread_place_of.ensures ∙ ap thread_place c.as_slice-4.ensures) in
     record {
       named = let own : OnDamaged e IsThreadName = on_damaged e (IsRowName missing) IsThreadName (λ name is. sizes_named t.key missing name missing_is is) failed.named in search rules;
       damaged = λ told.
@@ -85,8 +85,8 @@ returns-in_err-lines-clause-sound g c told posts is =
     let page = c.args.page in
     let row = c.on_page-numbers.result.now in
     let cut : row ≡ on_page page t.numbers = c.on_page-numbers.ensures ∙ ap (on_page page) c.as_slice-3.ensures in
-    let missing = c.thread_name-missing.result in
-    let missing_is : missing ≡ thread_name (thread_place t.key) = c.thread_name-missing.ensures ∙ ap (λ (k : Text). thread_name (thread_place k)) c.as_slice-4.ensures in
+    let missing = c.threads-missing.result in
+    let missing_is : missing ≡ thread_name (thread_place t.key) = c.threads-missing.ensures.name ∙ ap thread_name (c.thread_place_of.ensures ∙ ap thread_place c.as_slice-4.ensures) in
     let same = g.met.F.Files.kept_map c.args.files.now c.whole_thread.new.files told c.whole_thread.ensures.reads.kept in
     let answer : IsWholeAnswer dir prefix first (Some t) = subst (λ (o : Option Thread). IsWholeAnswer dir prefix first o) c.in-Some.is (subst (λ (p : Text). IsWholeAnswer dir p first c.in_ok-thread.field-0) c.as_slice.ensures (c.in_ok-thread.ensures.read told)) in
     let count = counted_is dir posts is.filed answer.0.0 answer.0.1 in
