@@ -1,25 +1,13 @@
-use Rattle.std.proofs.Common.{◌≡◌, ◌<◌, ◌≤◌, inl, inr, ◌+◌, ◌/◌, [], ℕ, List, Option, arith, rules, subst, sym, ap, ap₂, ◌∙◌, refl, ◌⊎◌}
-use Rattle.std.specs.Prelude.{unwrap_or}
-use Rattle.std.proofs.lemmas.Nat.{mod_below}
+use Rattle.std.proofs.Common.{◌≡◌, inl, ℕ, Option, rules, subst, sym}
 use Rattle.ml_base.specs.Bytes.{Text}
 use Rattle.ml_base.specs.Dir.{Dir}
 use Rattle.ml_base.specs.PartErrors.{OnDamaged}
-use Rattle.ml_base.specs.Hash.{hash_of}
 use Rattle.ml_base.proofs.DamagedNames.{on_both, on_damaged}
-use Rattle.ml_base.proofs.ReadingLemmas.{reading_ok}
-use Rattle.ml_filing.specs.Answers.{HasEntriesBefore, IsAppendName, IsBadForAppend, IsBadForNext, IsNoNumber, IsNoThreads, new_post}
-use Rattle.ml_filing.specs.Appending.{key_puts}
-use Rattle.ml_filing.specs.Archive.{IsNumberFile, index_name, number_name}
-use Rattle.ml_filing.specs.Posts.{key_of}
+use Rattle.ml_filing.specs.Answers.{IsAppendName, IsBadForAppend, IsNoNumber}
+use Rattle.ml_filing.specs.Archive.{IsNumberFile, number_name}
 use Rattle.ml_filing.specs.Reads.{IsOfNext}
-use Rattle.ml_filing.specs.Subjects as subjects
 use Rattle.ml_filing.specs.Subjects.{subject, subject_key}
-use Rattle.ml_filing.specs.Threads.{Thread, IsThreadFile, thread_name, thread_place}
-use Rattle.ml_filing.specs.declared.posts.Appended.TheVariants.{At}
-use Rattle.ml_filing.specs.declared.posts.Post.{Post}
-use Rattle.ml_filing.proofs.Lengthened.{append_leads, no_bad_next, next_named, next_bad, next_of}
 use Rattle.ml_filing.proofs.Looking.{counted_is}
-use Rattle.ml_filing.proofs.Calls.{kept_by, kept_on, read_on}
 use Rattle.ml_filing.proofs.new_post.append.Goals as goal
 
 pub returns-then-count-eq-LAST_POST_NUMBER-clause-value : goal.returns-then-count-eq-LAST_POST_NUMBER-clause-value

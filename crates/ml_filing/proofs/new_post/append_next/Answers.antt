@@ -1,4 +1,4 @@
-use Rattle.std.proofs.Common.{◌≡◌, ◌<◌, ◌≤◌, inl, inr, ◌+◌, ◌/◌, [], ℕ, List, Option, arith, rules, subst, sym, ap, ap₂, ◌∙◌, refl, ◌⊎◌}
+use Rattle.std.proofs.Common.{◌≡◌, ◌<◌, ◌≤◌, inr, ◌+◌, ◌/◌, [], ℕ, List, arith, rules, subst, ap, ap₂, ◌∙◌, refl, ◌⊎◌}
 use Rattle.std.specs.Prelude.{unwrap_or}
 use Rattle.std.proofs.lemmas.Nat.{mod_below}
 use Rattle.ml_base.specs.Bytes.{Text}
@@ -7,9 +7,9 @@ use Rattle.ml_base.specs.PartErrors.{OnDamaged}
 use Rattle.ml_base.specs.Hash.{hash_of}
 use Rattle.ml_base.proofs.DamagedNames.{on_both, on_damaged}
 use Rattle.ml_base.proofs.ReadingLemmas.{reading_ok}
-use Rattle.ml_filing.specs.Answers.{HasEntriesBefore, IsAppendName, IsBadForAppend, IsBadForNext, IsNoNumber, IsNoThreads, new_post}
+use Rattle.ml_filing.specs.Answers.{IsAppendName, IsBadForAppend, IsBadForNext, IsNoThreads, new_post}
 use Rattle.ml_filing.specs.Appending.{key_puts}
-use Rattle.ml_filing.specs.Archive.{IsNumberFile, index_name, number_name}
+use Rattle.ml_filing.specs.Archive.{index_name, number_name}
 use Rattle.ml_filing.specs.Posts.{key_of}
 use Rattle.ml_filing.specs.Reads.{IsOfNext}
 use Rattle.ml_filing.specs.Subjects as subjects
