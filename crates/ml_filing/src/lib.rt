@@ -16,7 +16,7 @@ mod threads;
 
 pub use laws::{law_append, law_archive, law_archive_files, law_cut, law_threads};
 pub use lookups::{Index, Indexes, entry_among, read_alone};
-pub use new_post::append;
+pub use new_post::{append, append_next};
 pub use post_reader::{count, index, message_of, post};
 pub use posts::{Appended, Entries, Entry, Post, Thread, Threads};
 pub use ranges::range;

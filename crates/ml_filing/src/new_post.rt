@@ -7,10 +7,12 @@ ghost use Rattle.ml_base.specs.Ranges.{IsMoment};
 ghost use Rattle.ml_base.specs.ReadFiles.{IsReading, NamesDamaged};
 ghost use Rattle.ml_filing.specs.Answers.{HasEntriesBefore, IsAppendName, IsBadForAppend, IsBadForNext, IsAppended, AppendsTo, ReadsAlike, new_post, number_of, puts_of};
 ghost use Rattle.ml_filing.specs.Appending.{key_puts};
+ghost use Rattle.ml_filing.specs.Archive.{IsNumberFile};
 ghost use Rattle.ml_filing.specs.Archive as archive;
 ghost use Rattle.ml_filing.specs.Reads.{IsOfNext};
 ghost use Rattle.ml_filing.specs.Subjects as subjects;
 ghost use Rattle.ml_filing.specs.Threads.{IsArchive, is_of_archive};
+ghost use Rattle.ml_filing.specs.declared.posts.Appended.TheVariants.{At};
 ghost use Rattle.ml_filing.specs.declared.posts.Post.{Post as ThePost};
 
 use crate::files::{read_count, read_thread_file, text_of};
@@ -92,6 +94,55 @@ fn puts(
     Ok(txn)
 }
 
+/// The puts that append a post to an archive that has this many posts, fewer than 99,999,999, on a list with this prefix:
+/// its number is the next one. They are of four files: the post, its group's index, the number of posts, and the thread
+/// file of its subject's key. The subject is taken from the bytes. It reads the index and the thread file, and never
+/// another post.
+///
+/// The moment is in seconds since 1970.
+pub fn append_next<F: Files>(
+    alloc: Global,
+    files: &mut F,
+    count: u64,
+    prefix: &[u8],
+    sender: &Address,
+    moment: u64,
+    bytes: &[u8],
+) -> Result<Txn, PartError>
+    requires count { IsTrue F.tells → IsNumberFile (F.map files.now archive.number_name) count }
+    requires room { count < 99_999_999 }
+    requires moment { IsMoment moment }
+    requires size { length bytes.now < 4_294_967_296 }
+    ensures value { IsTrue F.tells → IfOk result (λ txn. (dir : Dir) (posts : List ThePost) → IsArchive dir prefix.now posts → ReadsAlike (F.map files.old) dir prefix.now (new_post sender.now moment bytes.now) posts → AppendsTo dir prefix.now posts (new_post sender.now moment bytes.now) (At (count + 1) txn)) }
+    ensures read { IsTrue F.tells → IfOk result (λ txn. IsAppended (F.map files.old) prefix.now (new_post sender.now moment bytes.now) (At (count + 1) txn)) }
+    ensures others { IfOk result (λ txn. touches_only is_of_archive txn ≡ true) }
+    ensures files { IfOk result (λ txn. touches_only is_file txn ≡ true) }
+    ensures names { NamesDamaged ⟦<F as Files>⟧ IsAppendName (λ name. IsBadForAppend (F.map files.old) name × IsOfNext (F.map files.old) (subjects.subject_key prefix.now (subjects.subject bytes.now)) name) result }
+    ensures sound { IsTrue F.tells → (posts : List ThePost) → IsArchive (F.map files.old) prefix.now posts → IfErr result (λ e. OnDamaged e (λ _. ⊥)) }
+    ensures reads { IsReading ⟦<F as Files>⟧ files.old files.new result }
+{
+    let number = count + 1;
+    let subject = subject(alloc, &Message::scan(bytes))?;
+    let key = subject_key(alloc, prefix, subject.as_slice())?;
+    let index = next_index(alloc, files, number)?;
+    let threads = read_thread_file(alloc, files, thread_place_of(key.as_slice()))?;
+    let new = New {
+        sender: sender.bytes(),
+        moment,
+        subject: subject.as_slice(),
+        bytes,
+    };
+    let txn = puts(
+        alloc,
+        number,
+        new,
+        key.as_slice(),
+        index,
+        threads.as_slice(),
+    )?;
+    Ok(txn)
+}
+
 /// Appends a post to the archive of a list with this prefix. The answer is its number, and the puts of four files: the
 /// post, its group's index, the number of posts, and the thread file of its subject's key. The subject is taken from
 /// the bytes. `Full` exactly if the archive has 99,999,999 posts. It reads the three files besides the post, and never
@@ -121,24 +172,6 @@ pub fn append<F: Files>(
     if count == LAST_POST_NUMBER {
         return Ok(Appended::Full);
     }
-    let number = count + 1;
-    let subject = subject(alloc, &Message::scan(bytes))?;
-    let key = subject_key(alloc, prefix, subject.as_slice())?;
-    let index = next_index(alloc, files, number)?;
-    let threads = read_thread_file(alloc, files, thread_place_of(key.as_slice()))?;
-    let new = New {
-        sender: sender.bytes(),
-        moment,
-        subject: subject.as_slice(),
-        bytes,
-    };
-    let txn = puts(
-        alloc,
-        number,
-        new,
-        key.as_slice(),
-        index,
-        threads.as_slice(),
-    )?;
-    Ok(Appended::At(number, txn))
+    let txn = append_next(alloc, files, count, prefix, sender, moment, bytes)?;
+    Ok(Appended::At(count + 1, txn))
 }

@@ -1,5 +1,6 @@
 -- What bounces do to the list's files.
 use Rattle.std.proofs.Common.{◌≡◌, Bool, true, false, cond, List, [], Option, Some, None, refl, sym, ap, ◌∙◌, subst}
+use Rattle.std.specs.Prelude.{is_some}
 use Rattle.std.proofs.lemmas.Bool.{and_from, eq-eqb}
 use Rattle.ml_base.specs.Bytes.{Text}
 use Rattle.ml_base.specs.Address.{key}
@@ -78,14 +79,14 @@ module _ (dir : Dir) (p : Plain) (x : Text) (done : List Put × Reply) where
   changed_list sets.Moderators (Some txn) (Some ledger) mailed is leads only e f = absurd (let bad : false ≡ true = mailed in cc)
 
   -- a probe's bounce that changes nothing
-  pub spared : (set : Set) (found : Option Ledger) → IsList dir p → LeadsTo dir set None found → done.0 ≡ [] → done.1 ≡ ignored → DoesList dir done (if_probed p set x found)
-  spared set None is leads e f = does_by dir done [] ignored p e f is
-  spared set (Some ledger) is leads e f = absurd leads
+  pub spared : (set : Set) (found : Option Ledger) → IsList dir p → is_some found ≡ false → done.0 ≡ [] → done.1 ≡ ignored → DoesList dir done (if_probed p set x found)
+  spared set None is none e f = does_by dir done [] ignored p e f is
+  spared set (Some ledger) is none e f = absurd (let bad : true ≡ false = none in cc)
 
   -- one that drops the member
-  pub dropped_so : (set : Set) (puts : List Put) (found : Option Ledger) → LeadsTo dir set (Some puts) found → DoesList dir done (removed set x p, dropped) → DoesList dir done (if_probed p set x found)
-  dropped_so set puts None leads does = absurd leads
-  dropped_so set puts (Some ledger) leads does = does
+  pub dropped_so : (set : Set) (found : Option Ledger) → is_some found ≡ true → DoesList dir done (removed set x p, dropped) → DoesList dir done (if_probed p set x found)
+  dropped_so set None some does = absurd (let bad : true ≡ false = sym some in cc)
+  dropped_so set (Some ledger) some does = does
 
 -- a bounce that doesn't count, and one that does
 module _ (dir : Dir) (p : Plain) (set : Set) (done : List Put × Reply) (b : Bool) (ledger : Option Ledger) where

@@ -29,7 +29,7 @@ ghost use Rattle.ml_manage.specs.Reads.{is_counted_in, is_of_bounce, is_of_probe
 use crate::members::is_member;
 use ml_acts::{Moment, is_good, key_of, remove_member};
 use ml_base::{Address, Files, PartError, Set, Txn};
-use ml_bounce::{note, probe_failed, warn_failed};
+use ml_bounce::{is_probed_at, note, warn_failed};
 use ml_config::key;
 use ml_digest::mark;
 use ml_filing::count;
@@ -263,9 +263,10 @@ fn drop_if_probed<F: Files>(
     ensures found { IsTrue F.tells → IfOk result (λ done. TellsLedger (F.map files.old) set (key x.now) × (Says answers.ignored done ⊎ FoundToDrop (F.map files.old) set (key x.now) done)) }
     ensures act { AnswersWithin (is_left_by set x.now) ⟦<F as Files>⟧ (λ name. (is_touched set (key x.now) name || is_entry_of set x.now name) ≡ true) (IsDamaged (F.map files.old)) files.old files.new result }
 {
-    let Some(_) = probe_failed(alloc, files, set, x, time)? else {
+    let is_probed = is_probed_at(alloc, files, set, x, time)?;
+    if !is_probed {
         return Ok((Txn::new(alloc), Reply::plain(Reply::IGNORED)));
-    };
+    }
     drop_member(alloc, files, set, x)
 }
 

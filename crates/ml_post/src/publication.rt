@@ -22,7 +22,7 @@ use crate::outgoing_text::sent_text;
 use ml_acts::{MailMemo, Moment, post_path, send_to_list};
 use ml_base::{Address, Bytes, Files, LAST_POST_NUMBER, LONGEST_POST, PartError, Txn};
 use ml_config::Config;
-use ml_filing::{Appended, append, count};
+use ml_filing::{Appended, append_next, count};
 use ml_header::Message;
 use std::alloc::{AllocError, Global};
 
@@ -52,13 +52,17 @@ pub(crate) fn publish<F: Files>(
     }
     let text = text_to_send(alloc, config, message)?;
     let prefix = config.prefix.as_slice();
-    match append(alloc, files, prefix, sender, now.seconds, text.as_slice())? {
-        Appended::Full => Ok(Appended::Full),
-        Appended::At(_, txn) => {
-            let txn = with_mail(alloc, files, memo, config, count + 1, text, txn)?;
-            Ok(Appended::At(count + 1, txn))
-        }
-    }
+    let filed = append_next(
+        alloc,
+        files,
+        count,
+        prefix,
+        sender,
+        now.seconds,
+        text.as_slice(),
+    )?;
+    let txn = with_mail(alloc, files, memo, config, count + 1, text, filed)?;
+    Ok(Appended::At(count + 1, txn))
 }
 
 // The puts of a post that gets a number, and after them those by which its text goes to the set list.

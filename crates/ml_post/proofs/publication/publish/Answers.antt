@@ -33,10 +33,10 @@ returns-in_err-count-clause-names g c =
     (λ name e none. record { damaged = number e none; own = λ of. count_next dir key name (e, none) }) c.in_err-count.ensures.names in
     search rules
 
-pub returns-in_err-append-clause-names : goal.returns-in_err-append-clause-names
-returns-in_err-append-clause-names g c =
-    let e = c.in_err-append.field-0.0 in
-    let failed = c.in_err-append.ensures.names in
+pub returns-in_err-filed-clause-names : goal.returns-in_err-filed-clause-names
+returns-in_err-filed-clause-names g c =
+    let e = c.in_err-filed.field-0.0 in
+    let failed = c.in_err-filed.ensures.names in
     let few = c.in_ok-count.ensures.few in
     let last = c.if-count-eq-LAST_POST_NUMBER.false in
     let less : c.in_ok-count.count < 99_999_999 = omega (arith, few, last) in
@@ -57,73 +57,59 @@ returns-in_err-append-clause-names g c =
           search rules;
     }
 
-pub returns-in_err-txn-in-At-clause-names : goal.returns-in_err-txn-in-At-clause-names
-returns-in_err-txn-in-At-clause-names g c =
+pub returns-in_err-txn-clause-names : goal.returns-in_err-txn-clause-names
+returns-in_err-txn-clause-names g c =
     let dir = g.F.Files.map c.args.files.now in
     let mailed = is_mailed_by sets.List in
-    let names = named_beside g.F.Files (λ name. is_published_by name ≡ true) _ dir (g.F.Files.map c.append.new.files) (Next (sent_key c.args.config.now c.args.message.now)) (λ name. mailed name ≡ true)
-    (λ told. g.met.F.Files.kept_map c.count.new.files c.append.new.files told c.append.ensures.reads.kept ∙ g.met.F.Files.kept_map c.args.files.now c.count.new.files told c.count.ensures.reads.kept)
+    let names = named_beside g.F.Files (λ name. is_published_by name ≡ true) _ dir (g.F.Files.map c.append_next.new.files) (Next (sent_key c.args.config.now c.args.message.now)) (λ name. mailed name ≡ true)
+    (λ told. g.met.F.Files.kept_map c.count.new.files c.append_next.new.files told c.append_next.ensures.reads.kept ∙ g.met.F.Files.kept_map c.args.files.now c.count.new.files told c.count.ensures.reads.kept)
     (λ name e.
     or_left (mailed name || same_name name number_name || is_index name) (is_thread_file name)
     (or_left (mailed name || same_name name number_name) (is_index name) (or_left (mailed name) (same_name name number_name) e)))
-    (λ name e of. mailed_other name sets.List e of) c.in_err-txn-in-At.ensures.names in
+    (λ name e of. mailed_other name sets.List e of) c.in_err-txn.ensures.names in
     search rules
 
-pub returns-in_ok-txn-in-At-clause-reads : goal.returns-in_ok-txn-in-At-clause-reads
-returns-in_ok-txn-in-At-clause-reads g c =
+pub returns-clause-reads : goal.returns-clause-reads
+returns-clause-reads g c =
     let one = kept_read g.F.Files c.args.files.now c.count.new.files c.count.result c.count.ensures.reads in
-    let two = kept_then g.F.Files g.met.F.Files.kept_then c.args.files.now c.count.new.files c.append.new.files one (kept_read g.F.Files c.count.new.files c.append.new.files c.append.result c.append.ensures.reads) in
-    let three = kept_then g.F.Files g.met.F.Files.kept_then c.args.files.now c.append.new.files c.with_mail.new.files two (kept_read g.F.Files c.append.new.files c.with_mail.new.files c.with_mail.result c.with_mail.ensures.reads) in
+    let two = kept_then g.F.Files g.met.F.Files.kept_then c.args.files.now c.count.new.files c.append_next.new.files one (kept_read g.F.Files c.count.new.files c.append_next.new.files c.append_next.result c.append_next.ensures.reads) in
+    let three = kept_then g.F.Files g.met.F.Files.kept_then c.args.files.now c.append_next.new.files c.with_mail.new.files two (kept_read g.F.Files c.append_next.new.files c.with_mail.new.files c.with_mail.result c.with_mail.ensures.reads) in
     reading_ok g.F.Files c.args.files.now c.with_mail.new.files _ three
 
-pub returns-in_err-append-clause-reads : goal.returns-in_err-append-clause-reads
-returns-in_err-append-clause-reads g c =
+pub returns-in_err-filed-clause-reads : goal.returns-in_err-filed-clause-reads
+returns-in_err-filed-clause-reads g c =
     let one = kept_read g.F.Files c.args.files.now c.count.new.files c.count.result c.count.ensures.reads in
-    let read = reading_then g.F.Files g.met.F.Files.kept_then c.args.files.now c.count.new.files c.append.new.files c.append.result one c.append.ensures.reads in
+    let read = reading_then g.F.Files g.met.F.Files.kept_then c.args.files.now c.count.new.files c.append_next.new.files c.append_next.result one c.append_next.ensures.reads in
     search rules
 
-pub returns-in-Full-clause-reads : goal.returns-in-Full-clause-reads
-returns-in-Full-clause-reads g c =
+pub returns-in_err-txn-clause-reads : goal.returns-in_err-txn-clause-reads
+returns-in_err-txn-clause-reads g c =
     let one = kept_read g.F.Files c.args.files.now c.count.new.files c.count.result c.count.ensures.reads in
-    let two = kept_then g.F.Files g.met.F.Files.kept_then c.args.files.now c.count.new.files c.append.new.files one (kept_read g.F.Files c.count.new.files c.append.new.files c.append.result c.append.ensures.reads) in
-    reading_ok g.F.Files c.args.files.now c.append.new.files _ two
-
-pub returns-in_err-txn-in-At-clause-reads : goal.returns-in_err-txn-in-At-clause-reads
-returns-in_err-txn-in-At-clause-reads g c =
-    let one = kept_read g.F.Files c.args.files.now c.count.new.files c.count.result c.count.ensures.reads in
-    let two = kept_then g.F.Files g.met.F.Files.kept_then c.args.files.now c.count.new.files c.append.new.files one (kept_read g.F.Files c.count.new.files c.append.new.files c.append.result c.append.ensures.reads) in
-    let read = reading_then g.F.Files g.met.F.Files.kept_then c.args.files.now c.append.new.files c.with_mail.new.files c.with_mail.result two c.with_mail.ensures.reads in
+    let two = kept_then g.F.Files g.met.F.Files.kept_then c.args.files.now c.count.new.files c.append_next.new.files one (kept_read g.F.Files c.count.new.files c.append_next.new.files c.append_next.result c.append_next.ensures.reads) in
+    let read = reading_then g.F.Files g.met.F.Files.kept_then c.args.files.now c.append_next.new.files c.with_mail.new.files c.with_mail.result two c.with_mail.ensures.reads in
     search rules
 
 pub returns-then-count-eq-LAST_POST_NUMBER-clause-found : goal.returns-then-count-eq-LAST_POST_NUMBER-clause-found
 returns-then-count-eq-LAST_POST_NUMBER-clause-found g c told =
     subst (λ (n : ℕ). IsNumberFile (g.F.Files.map c.args.files.now number_name) n) c.if-count-eq-LAST_POST_NUMBER.true (c.in_ok-count.ensures.read told)
 
-pub returns-in-Full-clause-found : goal.returns-in-Full-clause-found
-returns-in-Full-clause-found g c told =
-    let kept = g.met.F.Files.kept_map c.args.files.now c.count.new.files told c.count.ensures.reads.kept in
-    let post = new_post c.args.sender.now c.args.now.seconds c.as_slice.result.now in
-    let full = subst (λ (a : Appended). IsAppended (g.F.Files.map c.count.new.files) c.as_slice-prefix.result.now post a) c.in-Full.is (c.in_ok-append.ensures.read told) in
-    subst (λ (d : Dir). IsNumberFile (d number_name) 99_999_999) kept full
-
-pub returns-in_ok-txn-in-At-clause-found : goal.returns-in_ok-txn-in-At-clause-found
-returns-in_ok-txn-in-At-clause-found g c told =
+pub returns-clause-found : goal.returns-clause-found
+returns-clause-found g c told =
     let old = g.F.Files.map c.args.files.now in
     let kept = g.met.F.Files.kept_map c.args.files.now c.count.new.files told c.count.ensures.reads.kept in
-    let kept2 = g.met.F.Files.kept_map c.count.new.files c.append.new.files told c.append.ensures.reads.kept in
+    let kept2 = g.met.F.Files.kept_map c.count.new.files c.append_next.new.files told c.append_next.ensures.reads.kept in
     let post = new_post c.args.sender.now c.args.now.seconds c.as_slice.result.now in
-    let at = At c.in-At.field-0 c.in-At.txn in
-    let read = subst (λ (a : Appended). IsAppended (g.F.Files.map c.count.new.files) c.as_slice-prefix.result.now post a) c.in-At.is (c.in_ok-append.ensures.read told) in
-    let here = subst (λ (d : Dir). IsAppended d c.as_slice-prefix.result.now post at) kept read in
+    let at = At (c.in_ok-count.count + 1) c.in_ok-filed.filed in
+    let here = subst (λ (d : Dir). IsAppended d c.as_slice-prefix.result.now post at) kept (c.in_ok-filed.ensures.read told) in
     record {
       count = c.in_ok-count.count;
       counted = c.in_ok-count.ensures.read told;
       next = refl;
       post = post;
-      place = c.in-At.field-0;
-      filed = c.in-At.txn;
+      place = (c.in_ok-count.count + 1);
+      filed = c.in_ok-filed.filed;
       appended = subst (λ (p : Text). IsAppended old p post at) c.as_slice-prefix.ensures here;
-      sent = subst (λ (d : Dir). AddsMailToSet d sets.List c.in-At.txn c.in_ok-txn-in-At.txn) (kept2 ∙ kept) (c.in_ok-txn-in-At.ensures.found told);
+      sent = subst (λ (d : Dir). AddsMailToSet d sets.List c.in_ok-filed.filed c.in_ok-txn.txn) (kept2 ∙ kept) (c.in_ok-txn.ensures.found told);
     }
 
 pub returns-then-count-eq-LAST_POST_NUMBER-clause-apart : goal.returns-then-count-eq-LAST_POST_NUMBER-clause-apart
@@ -132,30 +118,21 @@ returns-then-count-eq-LAST_POST_NUMBER-clause-apart g c told dir p alike is same
     let file = subst (λ (n : ℕ). IsNumberFile (old number_name) n) c.if-count-eq-LAST_POST_NUMBER.true (c.in_ok-count.ensures.read told) in
     is_full_apart old dir p (alike.placed number_name (inl refl)) is file
 
-pub returns-in-Full-clause-apart : goal.returns-in-Full-clause-apart
-returns-in-Full-clause-apart g c told dir p alike is same =
-    let old = g.F.Files.map c.args.files.now in
-    let kept = g.met.F.Files.kept_map c.args.files.now c.count.new.files told c.count.ensures.reads.kept in
-    let post = new_post c.args.sender.now c.args.now.seconds c.as_slice.result.now in
-    let full = subst (λ (a : Appended). IsAppended (g.F.Files.map c.count.new.files) c.as_slice-prefix.result.now post a) c.in-Full.is (c.in_ok-append.ensures.read told) in
-    is_full_apart old dir p (alike.placed number_name (inl refl)) is (subst (λ (d : Dir). IsNumberFile (d number_name) 99_999_999) kept full)
-
-pub returns-in_ok-txn-in-At-clause-apart : goal.returns-in_ok-txn-in-At-clause-apart
-returns-in_ok-txn-in-At-clause-apart g c told dir p alike is same =
+pub returns-clause-apart : goal.returns-clause-apart
+returns-clause-apart g c told dir p alike is same =
     let old = g.F.Files.map c.args.files.now in
     let config = c.args.config.now in
     let kept = g.met.F.Files.kept_map c.args.files.now c.count.new.files told c.count.ensures.reads.kept in
-    let kept2 = g.met.F.Files.kept_map c.count.new.files c.append.new.files told c.append.ensures.reads.kept in
-    let only = subst (λ (a : Appended). touches_only is_of_archive (puts_of a) ≡ true) c.in-At.is c.in_ok-append.ensures.others in
+    let kept2 = g.met.F.Files.kept_map c.count.new.files c.append_next.new.files told c.append_next.ensures.reads.kept in
     let few = c.in_ok-count.ensures.few in
     let last = c.if-count-eq-LAST_POST_NUMBER.false in
     let less : c.in_ok-count.count < 99_999_999 = omega (arith, few, last) in
     let reads = reads_placed old dir p config c.args.now.seconds c.args.sender.now c.in_ok-text.text c.args.message.now c.in_ok-count.count alike.placed c.in_ok-text.ensures.text (c.in_ok-count.ensures.read told) less is in
-    publishes old dir p config c.args.now.seconds c.args.sender.now c.in_ok-text.text reads is same c.args.message.now c.in_ok-count.count c.in-At.field-0 c.in-At.txn c.in_ok-txn-in-At.txn
-    (c.in_ok-count.ensures.read told) c.in_ok-text.ensures.text only
-    (appends_so c.args.now.seconds c.args.sender.now old (g.F.Files.map c.count.new.files) c.as_slice-prefix.result.now config.prefix c.as_slice.result.now c.in_ok-text.text c.in_ok-append.field-0 (At c.in-At.field-0 c.in-At.txn) kept c.as_slice-prefix.ensures c.as_slice.ensures c.in-At.is
-    (c.in_ok-append.ensures.value told))
-    (λ q stands own. c.in_ok-txn-in-At.ensures.apart told dir q (λ name needs. alike.mailed name needs ∙ sym (ap (λ (d : Dir). d name) (kept2 ∙ kept))) stands own)
+    publishes old dir p config c.args.now.seconds c.args.sender.now c.in_ok-text.text reads is same c.args.message.now c.in_ok-count.count (c.in_ok-count.count + 1) c.in_ok-filed.filed c.in_ok-txn.txn
+    (c.in_ok-count.ensures.read told) c.in_ok-text.ensures.text c.in_ok-filed.ensures.others
+    (appends_so c.args.now.seconds c.args.sender.now old (g.F.Files.map c.count.new.files) c.as_slice-prefix.result.now config.prefix c.as_slice.result.now c.in_ok-text.text (At (c.in_ok-count.count + 1) c.in_ok-filed.filed) (At (c.in_ok-count.count + 1) c.in_ok-filed.filed) kept c.as_slice-prefix.ensures c.as_slice.ensures refl
+    (c.in_ok-filed.ensures.value told))
+    (λ q stands own. c.in_ok-txn.ensures.apart told dir q (λ name needs. alike.mailed name needs ∙ sym (ap (λ (d : Dir). d name) (kept2 ∙ kept))) stands own)
 
 pub returns-in_err-count-clause-spared : goal.returns-in_err-count-clause-spared
 returns-in_err-count-clause-spared g c told dir p alike is =
@@ -164,9 +141,9 @@ returns-in_err-count-clause-spared g c told dir p alike is =
     on_damaged c.in_err-count.field-0.0 (λ _. IsNoNumber old) (λ _. ⊥) (λ name bad. number_spared old dir p is (alike.placed number_name (inl refl)) bad) (c.in_err-count.ensures.names.damaged told) in
     search rules
 
-pub returns-in_err-append-clause-spared : goal.returns-in_err-append-clause-spared
-returns-in_err-append-clause-spared g c told dir p alike is =
-    let e = c.in_err-append.field-0.0 in
+pub returns-in_err-filed-clause-spared : goal.returns-in_err-filed-clause-spared
+returns-in_err-filed-clause-spared g c told dir p alike is =
+    let e = c.in_err-filed.field-0.0 in
     let old = g.F.Files.map c.args.files.now in
     let few = c.in_ok-count.ensures.few in
     let last = c.if-count-eq-LAST_POST_NUMBER.false in
@@ -178,17 +155,22 @@ returns-in_err-append-clause-spared g c told dir p alike is =
     let none : OnDamaged e (λ _. ⊥) =
     on_damaged e (λ name. IsBadForAppend old name × IsOfNext old own_key name) (λ _. ⊥)
     (λ name bad. next_spared old dir p is key c.in_ok-count.count alike.placed (c.in_ok-count.ensures.read told) less name bad.0 (subst (λ (k : Text). IsOfNext old k name) key_is bad.1))
-    (subst (λ (d : Dir). OnDamaged e (λ name. IsBadForAppend d name × IsOfNext d own_key name)) kept (c.in_err-append.ensures.names.damaged told)) in
+    (subst (λ (d : Dir). OnDamaged e (λ name. IsBadForAppend d name × IsOfNext d own_key name)) kept (c.in_err-filed.ensures.names.damaged told)) in
     search rules
 
-pub returns-in_err-txn-in-At-clause-spared : goal.returns-in_err-txn-in-At-clause-spared
-returns-in_err-txn-in-At-clause-spared g c told dir p alike is =
-    let e = c.in_err-txn-in-At.field-0.0 in
+pub returns-in_err-txn-clause-spared : goal.returns-in_err-txn-clause-spared
+returns-in_err-txn-clause-spared g c told dir p alike is =
+    let e = c.in_err-txn.field-0.0 in
     let old = g.F.Files.map c.args.files.now in
-    let later = g.F.Files.map c.append.new.files in
-    let kept = g.met.F.Files.kept_map c.count.new.files c.append.new.files told c.append.ensures.reads.kept ∙ g.met.F.Files.kept_map c.args.files.now c.count.new.files told c.count.ensures.reads.kept in
-    let failed = c.in_err-txn-in-At.ensures.names in
+    let later = g.F.Files.map c.append_next.new.files in
+    let kept = g.met.F.Files.kept_map c.count.new.files c.append_next.new.files told c.append_next.ensures.reads.kept ∙ g.met.F.Files.kept_map c.args.files.now c.count.new.files told c.count.ensures.reads.kept in
+    let failed = c.in_err-txn.ensures.names in
     let none : OnDamaged e (λ _. ⊥) =
     on_both e (λ name. is_mailed_by sets.List name ≡ true) (IsDamaged old) (λ _. ⊥) (λ name looked bad. mailed_spared old dir p is sets.List name looked (alike.mailed name looked) bad) failed.named
     (subst (λ (d : Dir). OnDamaged e (IsDamaged d)) kept (failed.damaged told)) in
     search rules
+
+pub append_next-requires-count : goal.append_next-requires-count
+append_next-requires-count g c told =
+    let kept = g.met.F.Files.kept_map c.args.files.now c.count.new.files told c.count.ensures.reads.kept in
+    subst (λ (d : Dir). IsNumberFile (d number_name) c.in_ok-count.count) (sym kept) (c.in_ok-count.ensures.read told)
