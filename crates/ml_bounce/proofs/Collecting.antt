@@ -15,7 +15,7 @@ use Rattle.ml_base.specs.declared.part_error.PartError.{PartError}
 use Rattle.ml_base.proofs.DamagedNames.{on_damaged}
 use Rattle.ml_base.proofs.SortedLaws.{bytes_total, same_bytes, same_lists}
 use Rattle.ml_keyed.specs.Buckets.{gathered, IsOrdered}
-use Rattle.ml_keyed.proofs.Keys.{place_below, tied, all_above_none}
+use Rattle.ml_keyed.proofs.Keys.{bucket_below, tied, all_above_none}
 use Rattle.ml_keyed.proofs.Union.{merged, sorted_joined}
 use Rattle.ml_keyed.proofs.Files.{Reads, reads_none, reads_more, union_of}
 use Rattle.ml_bounce.specs.Answers.{AreFiles, IsBadFile, has_ledger, ledger_kind}
@@ -119,8 +119,8 @@ due_sorted dir set now found sorted ledger all moved up is =
     let by_key = sorted_joined entry_key (λ i. filter test (all.0 i)) 53 hashed ordered sorted (subst (λ (l : Ledger). IsPermutation l sorted) all.2 moved) up in
     same_lists byte_cmp entry_key same_bytes bytes_total sorted (filter test ledger) by_key.0 (sorted_filter test ledger is.sorted)
     (λ k.
-    by_key.1 k (place_below k) ∙ found_filter test k (all.0 (bucket_of k)) (all.1 (bucket_of k) (place_below k)).sorted
-    ∙ ap (when_chosen test) (sym (found_there dir (ledger_kind set) ledger (all.0 (bucket_of k)) k is (all.1 (bucket_of k) (place_below k)))) ∙ sym (found_filter test k ledger is.sorted))
+    by_key.1 k (bucket_below k) ∙ found_filter test k (all.0 (bucket_of k)) (all.1 (bucket_of k) (bucket_below k)).sorted
+    ∙ ap (when_chosen test) (sym (found_there dir (ledger_kind set) ledger (all.0 (bucket_of k)) k is (all.1 (bucket_of k) (bucket_below k)))) ∙ sym (found_filter test k ledger is.sorted))
 
 abbrev pub SomeLedger : Dir → Set → Type 0
 SomeLedger dir set = (ledger : Ledger) × IsLedger dir (ledger_kind set) ledger

@@ -3,8 +3,8 @@ use Rattle.std.proofs.Common.{◌≡◌, ◌↔◌, ◌<◌, ◌+◌, ℕ, Bool,
 use Rattle.std.specs.Prelude.{unwrap_or}
 use Rattle.std.specs.List.{AllByRecursion, flat_map}
 use Rattle.ml_base.specs.Bytes.{Text}
-use Rattle.ml_base.specs.Sorted.{byte_cmp, is_sorted, entry_of, with_entry, without_key}
-use Rattle.ml_base.proofs.SortedLaws.{bytes_total, same_bytes, each_with, each_without, sorted_with, sorted_without, found_is}
+use Rattle.ml_base.specs.Sorted.{byte_cmp, is_sorted, with_entry, without_key}
+use Rattle.ml_base.proofs.SortedLaws.{bytes_total, same_bytes, each_with, each_without, sorted_with, sorted_without}
 use Rattle.ml_rows.specs.Rows.{row_of, EachFrom}
 use Rattle.ml_rows.proofs.RowLaws.{one_some, none_some, only_read, only_there, row_read, row_written}
 use Rattle.ml_keyed.specs.Records.{IsRecordFile, records_in, file_of}
@@ -47,10 +47,6 @@ module _ {R : Type 0} (IsRecord : ℕ → R → Type 0) (key_of spelling : R →
     sorted = sorted_without byte_cmp key_of same_bytes bytes_total k rs there.sorted;
     spelled = file_spelled spelling (without_key byte_cmp key_of k rs);
   }
-
-  -- a record that is found in a file is one of its records, and has the key that was sought
-  pub found_in : (n : ℕ) (file : Option Text) (k : Text) (r : R) (rs : List R) → IsFile n file rs → entry_of byte_cmp key_of k rs ≡ Some r → IsRecord n r × (k ≡ key_of r)
-  found_in n file k r rs there found = let is = found_is byte_cmp key_of (IsRecord n) k r rs there.each found in (is.0, same_bytes k (key_of r) is.1)
 
   module _
       (record_at : ℕ → ℕ → Text → Option (R × Text))

@@ -8,7 +8,7 @@ use Rattle.ml_base.specs.Bytes.{Text}
 use Rattle.ml_base.specs.Sorted.{byte_cmp, with_entry, without_key}
 use Rattle.ml_base.proofs.SortedLaws.{bytes_total, same_bytes, found_with, found_without, sorted_with, sorted_without, same_lists}
 use Rattle.ml_keyed.specs.Buckets.{bucket_of, through, gathered, counted, AreFirst, found, IsOrdered, IsUnion}
-use Rattle.ml_keyed.proofs.Keys.{place_below, differ}
+use Rattle.ml_keyed.proofs.Keys.{bucket_below, differ}
 use Rattle.ml_keyed.proofs.Union.{merged, placed_ordered, found_merged, length_merged, sorted_joined}
 
 -- buckets of which one has these records
@@ -67,7 +67,7 @@ module _ {E : Type 0} (key_of : E → Text) (IsFile : ℕ → Option Text → Li
       sorted = placed_ordered key_of (gathered buckets 53);
       buckets = buckets;
       files = files;
-      by_key = λ k. found_merged key_of buckets 53 (λ i less. hashed i (file i) (buckets i) (files i less)) k (place_below k);
+      by_key = λ k. found_merged key_of buckets 53 (λ i less. hashed i (file i) (buckets i) (files i less)) k (bucket_below k);
     }
 
     pub length_of : (file : ℕ → Option Text) (buckets : ℕ → List E) → AreFirst IsFile file 53 buckets → length (merged key_of buckets 53) ≡ counted buckets 53
@@ -77,18 +77,18 @@ module _ {E : Type 0} (key_of : E → Text) (IsFile : ℕ → Option Text → Li
     pub union_sorted : (file : ℕ → Option Text) (buckets : ℕ → List E) (es : List E) → AreFirst IsFile file 53 buckets → IsPermutation (gathered buckets 53) es → IsSortedByKey key_of byte_cmp es → IsUnion key_of IsFile file es
     union_sorted file buckets es files moved up =
         let joined = sorted_joined key_of buckets 53 (λ i less. hashed i (file i) (buckets i) (files i less)) (λ i less. ordered i (file i) (buckets i) (files i less)) es moved up in
-        record { sorted = joined.0; buckets = buckets; files = files; by_key = λ k. joined.1 k (place_below k) }
+        record { sorted = joined.0; buckets = buckets; files = files; by_key = λ k. joined.1 k (bucket_below k) }
 
   -- if a file has at most one row of records
   module _ (one : (n : ℕ) (file : Option Text) (es others : List E) → IsFile n file es → IsFile n file others → es ≡ others) where
     -- what is under a key is what the key's file has
     pub found_there : (file : ℕ → Option Text) (whole bucket : List E) (k : Text) → IsUnion key_of IsFile file whole → IsFile (bucket_of k) (file (bucket_of k)) bucket → found key_of k whole ≡ found key_of k bucket
-    found_there file whole bucket k is there = is.by_key k ∙ ap (found key_of k) (one (bucket_of k) (file (bucket_of k)) (is.buckets (bucket_of k)) bucket (is.files (bucket_of k) (place_below k)) there)
+    found_there file whole bucket k is there = is.by_key k ∙ ap (found key_of k) (one (bucket_of k) (file (bucket_of k)) (is.buckets (bucket_of k)) bucket (is.files (bucket_of k) (bucket_below k)) there)
 
     pub union_one : (file : ℕ → Option Text) (whole other : List E) → IsUnion key_of IsFile file whole → IsUnion key_of IsFile file other → whole ≡ other
     union_one file whole other is also =
         same_lists byte_cmp key_of same_bytes bytes_total whole other is.sorted also.sorted
-        (λ k. found_there file whole (also.buckets (bucket_of k)) k is (also.files (bucket_of k) (place_below k)) ∙ sym (also.by_key k))
+        (λ k. found_there file whole (also.buckets (bucket_of k)) k is (also.files (bucket_of k) (bucket_below k)) ∙ sym (also.by_key k))
 
     -- one file, that of a key, was written anew
     module _ (file after : ℕ → Option Text) (whole bucket : List E) (a : Text) (bytes : Option Text) (left : (n : ℕ) → after n ≡ cond (n == bucket_of a) bytes (file n)) (is : IsUnion key_of IsFile file whole)

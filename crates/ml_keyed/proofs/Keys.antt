@@ -14,8 +14,8 @@ use Rattle.ml_keyed.specs.Buckets.{bucket_of, found, IsOrdered, is_above, rises}
 use Rattle.std.specs.Char.{is_ascii_uppercase}
 use Rattle.ml_base.proofs.KeptAddresses.{small}
 
-pub place_below : (k : Text) → bucket_of k < 53
-place_below k = omega arith
+pub bucket_below : (k : Text) → bucket_of k < 53
+bucket_below k = omega arith
 
 pub differ : (k l : Text) → (k ≡ l → ⊥) → eq_by_cmp byte_cmp k l ≡ false
 differ k l apart = go (byte_cmp k l) refl

@@ -15,7 +15,7 @@ use Rattle.ml_base.specs.declared.puts.Put.{Put}
 use Rattle.ml_base.proofs.Laid.{left_alone}
 use Rattle.ml_base.proofs.SortedLaws.{same_bytes, bytes_total, sorted_with, sorted_without, length_with, length_left, each_with, each_without, found_is}
 use Rattle.ml_keyed.specs.Buckets.{counted}
-pub use Rattle.ml_keyed.proofs.Keys.{place_below as below_53}
+pub use Rattle.ml_keyed.proofs.Keys.{bucket_below as below_53}
 use Rattle.ml_keyed.proofs.Keys.{each_found}
 use Rattle.ml_keyed.proofs.Union.{merged}
 use Rattle.ml_keyed.proofs.Files.{union_own, union_nothing, union_one, union_of, length_of, found_there, put_there, taken_there}

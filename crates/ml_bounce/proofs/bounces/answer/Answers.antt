@@ -8,7 +8,7 @@ use Rattle.ml_base.proofs.Bools.{name_itself}
 use Rattle.ml_bounce.specs.Answers.{key_file, bounced, writes}
 use Rattle.ml_bounce.specs.Files.{bucket_of}
 use Rattle.ml_bounce.proofs.Leading.{bounced_leads, answer_only, lowered_key}
-use Rattle.ml_keyed.proofs.Keys.{place_below}
+use Rattle.ml_keyed.proofs.Keys.{bucket_below}
 use Rattle.ml_bounce.proofs.Ledgers.{bucket_in, ledger_file_of}
 use Rattle.ml_bounce.proofs.bounces.answer.Goals as goal
 
@@ -34,5 +34,5 @@ returns-clause-others g c =
 pub returns-clause-files : goal.returns-clause-files
 returns-clause-files g c =
     answer_only is_file c.args.set (key c.args.who.now) (bounced c.args.bounce (key c.args.who.now) c.in_ok-bucket.bucket.entries) c.in_ok-answer_in.field-0
-    (ledger_file_of c.args.set (bucket_of (key c.args.who.now)) c.requires.ledger (place_below (key c.args.who.now)))
+    (ledger_file_of c.args.set (bucket_of (key c.args.who.now)) c.requires.ledger (bucket_below (key c.args.who.now)))
     (c.in_ok-answer_in.ensures ∙ ap (λ (k : Text). option_map (writes c.args.set k) (bounced c.args.bounce k c.in_ok-bucket.bucket.entries)) c.in_ok-bucket.ensures.key)

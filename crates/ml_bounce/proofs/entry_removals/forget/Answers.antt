@@ -6,7 +6,7 @@ use Rattle.ml_base.specs.Name.{is_file}
 use Rattle.ml_base.proofs.Bools.{name_itself}
 use Rattle.ml_bounce.specs.Answers.{key_file, forgets}
 use Rattle.ml_bounce.specs.Files.{bucket_of}
-use Rattle.ml_keyed.proofs.Keys.{place_below}
+use Rattle.ml_keyed.proofs.Keys.{bucket_below}
 use Rattle.ml_bounce.proofs.Ledgers.{bucket_in, forgotten_by, forgets_only, ledger_file_of}
 use Rattle.ml_bounce.proofs.entry_removals.forget.Goals as goal
 
@@ -29,5 +29,5 @@ returns-clause-others g c =
 
 pub returns-clause-files : goal.returns-clause-files
 returns-clause-files g c =
-    forgets_only is_file c.args.set (key c.args.who.now) c.in_ok-bucket.bucket.entries c.in_ok-forgotten.field-0 (ledger_file_of c.args.set (bucket_of (key c.args.who.now)) c.requires (place_below (key c.args.who.now)))
+    forgets_only is_file c.args.set (key c.args.who.now) c.in_ok-bucket.bucket.entries c.in_ok-forgotten.field-0 (ledger_file_of c.args.set (bucket_of (key c.args.who.now)) c.requires (bucket_below (key c.args.who.now)))
     (c.in_ok-forgotten.ensures ∙ ap (λ (k : Text). forgets c.args.set k c.in_ok-bucket.bucket.entries) c.in_ok-bucket.ensures.key)

@@ -8,7 +8,7 @@ use Rattle.ml_bounce.specs.Answers.{action_key, acts, key_file, IsBucketOf}
 use Rattle.ml_bounce.specs.Files.{bucket_of}
 use Rattle.ml_bounce.proofs.Acted.{acted_leads, acts_only}
 use Rattle.ml_bounce.proofs.Leading.{lowered_key}
-use Rattle.ml_keyed.proofs.Keys.{place_below}
+use Rattle.ml_keyed.proofs.Keys.{bucket_below}
 use Rattle.ml_bounce.proofs.Ledgers.{bucket_in, ledger_file_of}
 use Rattle.ml_bounce.proofs.stage_changes.act.Goals as goal
 
@@ -37,5 +37,5 @@ returns-clause-others g c =
 pub returns-clause-files : goal.returns-clause-files
 returns-clause-files g c =
     let own = key (action_key c.args.action.now) in
-    acts_only is_file c.args.set own c.args.now c.in_ok-bucket.bucket.entries c.in_ok-act_in.field-0 (ledger_file_of c.args.set (bucket_of own) c.requires.ledger (place_below own))
+    acts_only is_file c.args.set own c.args.now c.in_ok-bucket.bucket.entries c.in_ok-act_in.field-0 (ledger_file_of c.args.set (bucket_of own) c.requires.ledger (bucket_below own))
     (c.in_ok-act_in.ensures ∙ ap (λ (k : Text). acts c.args.set k c.args.now c.in_ok-bucket.bucket.entries) (c.in_ok-bucket.ensures.key ∙ ap key c.target.ensures))
