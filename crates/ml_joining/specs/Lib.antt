@@ -1,4 +1,5 @@
 pub mod Operations
+pub mod Notices
 pub mod Cases
 pub mod Reads
 pub mod Damaged

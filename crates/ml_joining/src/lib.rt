@@ -1,13 +1,13 @@
 //! Requests by mail to join or to leave a set, and their confirmations: what is answered, and what is done to the list.
 #![tactic(auto)]
 
-mod arrivals;
+mod changes;
 mod confirmation_mails;
 mod decisions;
-mod departures;
+mod notices;
 mod operations;
 mod requests;
 mod subjects;
 
 pub use requests::{confirm, subscribe, unsubscribe};
-pub use subjects::named_address;
+pub use subjects::{is_moderator_if, named_address};

@@ -17,16 +17,17 @@ ghost use Rattle.ml_acts.specs.Doing.{Alike, DoesList, HasIds, is_changed_for};
 ghost use Rattle.ml_acts.specs.Damaged.{IsDamaged};
 ghost use Rattle.ml_acts.specs.Found.{TellsKeys, TellsMember};
 ghost use Rattle.ml_joining.specs.Damaged.{AnswersLooking};
-ghost use Rattle.ml_joining.specs.Found.{FoundToConfirm, FoundToDo, FoundToSubscribe, FoundToUnsubscribe, confirming};
-ghost use Rattle.ml_joining.specs.Operations.{IsSubject, asked_of};
+ghost use Rattle.ml_joining.specs.Cases as cases;
+ghost use Rattle.ml_joining.specs.Found.{FoundByRequest, FoundToConfirm, FoundToSubscribe, FoundToUnsubscribe};
+ghost use Rattle.ml_joining.specs.Operations.{IsSubject, asked_of, requested};
 ghost use Rattle.ml_joining.specs.Reads as reads;
-ghost use Rattle.ml_joining.specs.Reads.{is_read_to_confirm, is_read_to_subscribe, is_read_to_unsubscribe};
-ghost use Rattle.ml_joining.specs.Written.{is_written_to_confirm, is_written_to_join};
+ghost use Rattle.ml_joining.specs.Reads.{is_read_by_request, is_read_to_confirm, is_read_to_subscribe, is_read_to_unsubscribe};
+ghost use Rattle.ml_joining.specs.Written.{is_written_to, is_written_to_confirm, is_written_to_join};
 
-use crate::arrivals::do_joining;
-use crate::decisions::{Facts, confirmed_joining, confirmed_leaving, joining, leaving};
-use crate::departures::do_leaving;
-use crate::subjects::{Subject, find_subject, moderates};
+use crate::changes::carry_out;
+use crate::decisions::{Facts, confirmed, decide};
+use crate::operations::Change;
+use crate::subjects::{Subject, find_subject, is_moderator_if};
 use ml_acts::{Moment, is_good as good_cookie, key_of};
 use ml_address::{Who, Word, word_text};
 use ml_base::{Address, Files, PartError, Set, Txn};
@@ -53,42 +54,8 @@ pub fn subscribe<F: Files>(
     ensures found { IsTrue F.tells → IfOk result (FoundToSubscribe (F.map files.old) config.now sender.now set (asked_of sender.now (option_map who_view who.entry))) }
     ensures act { AnswersLooking (is_written_to_join set (asked_of sender.now (option_map who_view who.entry))) ⟦<F as Files>⟧ (is_read_to_subscribe config.now sender.now set (asked_of sender.now (option_map who_view who.entry))) files.old files.new result }
 {
-    let x = find_subject(alloc, files, set, sender, who)?;
-    join_found(alloc, files, config, now, sender, set, &x)
-}
-
-// Whether it depends on the sender's rank if somebody joins.
-fn asks_rank(config: &Config) -> bool
-    ensures { result ≡ reads.asks_rank config.now }
-{
-    config.flags.r || !config.flags.p
-}
-
-// A sender asks that somebody joins a set. The set was searched for him.
-fn join_found<F: Files>(
-    alloc: Global,
-    files: &mut F,
-    config: &Config,
-    now: Moment,
-    sender: &Address,
-    set: Set,
-    x: &Subject,
-) -> Result<(Txn, Reply), PartError>
-    requires config { IsConfig config.now }
-    requires asked { IsTrue (is_asked set) }
-    requires room { IsTrue F.tells → HasIds (F.map files.now) }
-    ensures apart { IsTrue F.tells → IfOk result (λ done. (dir : Dir) (p : Plain) → Alike (is_read_to_subscribe config.now sender.now set x.now.named) (F.map files.old) dir → IsList dir p → p.config ≡ config.now → IsSubject p set x.now → DoesList dir done (spec.subscribe now.seconds sender.now set x.now.who p)) }
-    ensures found { IsTrue F.tells → IfOk result (λ done. TellsMember (F.map files.old) set (key x.now.named) x.now.member → FoundToSubscribe (F.map files.old) config.now sender.now set x.now.named done) }
-    ensures act { AnswersLooking (is_written_to_join set x.now.named) ⟦<F as Files>⟧ (is_read_to_subscribe config.now sender.now set x.now.named) files.old files.new result }
-{
-    let moderator = moderates(alloc, files, asks_rank(config), sender)?;
-    let facts = Facts {
-        moderator,
-        member: x.member,
-        own: x.who.same(sender),
-    };
-    let operation = joining(config, set, facts);
-    do_joining(alloc, files, config, now, set, sender, x, operation)
+    let change = Change::Joining;
+    request(alloc, files, config, now, change, sender, set, who)
 }
 
 /// A sender asks that an address leaves a set: the one that he names, or his own. The set is one that requests name. What it does is said of
@@ -110,16 +77,50 @@ pub fn unsubscribe<F: Files>(
     ensures found { IsTrue F.tells → IfOk result (FoundToUnsubscribe (F.map files.old) config.now sender.now set (asked_of sender.now (option_map who_view who.entry))) }
     ensures act { AnswersLooking (is_changed_for set (asked_of sender.now (option_map who_view who.entry))) ⟦<F as Files>⟧ (is_read_to_unsubscribe config.now sender.now set (asked_of sender.now (option_map who_view who.entry))) files.old files.new result }
 {
-    let x = find_subject(alloc, files, set, sender, who)?;
-    leave_found(alloc, files, config, now, sender, set, &x)
+    let change = Change::Leaving;
+    request(alloc, files, config, now, change, sender, set, who)
 }
 
-// A sender asks that somebody leaves a set. The set was searched for him.
-fn leave_found<F: Files>(
+// A sender asks that an address joins a set or leaves it.
+fn request<F: Files>(
     alloc: Global,
     files: &mut F,
     config: &Config,
     now: Moment,
+    change: Change,
+    sender: &Address,
+    set: Set,
+    who: Option<Who<'_>>,
+) -> Result<(Txn, Reply), PartError>
+    requires config { IsConfig config.now }
+    requires asked { IsTrue (is_asked set) }
+    requires range { IsTrue (if_who (option_map who_view who)) }
+    requires room { IsTrue F.tells → HasIds (F.map files.now) }
+    ensures apart { IsTrue F.tells → IfOk result (λ done. (dir : Dir) (p : Plain) → Alike (is_read_by_request change config.now sender.now set (asked_of sender.now (option_map who_view who.entry))) (F.map files.old) dir → IsList dir p → p.config ≡ config.now → DoesList dir done (requested change now.seconds sender.now set (spec.subject_of p set sender.now (option_map who_view who.entry)) p)) }
+    ensures found { IsTrue F.tells → IfOk result (FoundByRequest (F.map files.old) set (key (asked_of sender.now (option_map who_view who.entry))) (reads.asks_rank_to change config.now) sender.now (cases.asked change config.now.flags set)) }
+    ensures act { AnswersLooking (is_written_to change set (asked_of sender.now (option_map who_view who.entry))) ⟦<F as Files>⟧ (is_read_by_request change config.now sender.now set (asked_of sender.now (option_map who_view who.entry))) files.old files.new result }
+{
+    let x = find_subject(alloc, files, set, sender, who)?;
+    request_found(alloc, files, config, now, change, sender, set, &x)
+}
+
+// Whether it depends on the sender's rank what is done.
+fn asks_rank(change: Change, config: &Config) -> bool
+    ensures { result ≡ reads.asks_rank_to change config.now }
+{
+    match change {
+        Change::Joining => config.flags.r || !config.flags.p,
+        Change::Leaving => config.flags.r,
+    }
+}
+
+// A sender asks that somebody joins a set or leaves it. The set was searched for him.
+fn request_found<F: Files>(
+    alloc: Global,
+    files: &mut F,
+    config: &Config,
+    now: Moment,
+    change: Change,
     sender: &Address,
     set: Set,
     x: &Subject,
@@ -127,18 +128,18 @@ fn leave_found<F: Files>(
     requires config { IsConfig config.now }
     requires asked { IsTrue (is_asked set) }
     requires room { IsTrue F.tells → HasIds (F.map files.now) }
-    ensures apart { IsTrue F.tells → IfOk result (λ done. (dir : Dir) (p : Plain) → Alike (is_read_to_unsubscribe config.now sender.now set x.now.named) (F.map files.old) dir → IsList dir p → p.config ≡ config.now → IsSubject p set x.now → DoesList dir done (spec.unsubscribe now.seconds sender.now set x.now.who p)) }
-    ensures found { IsTrue F.tells → IfOk result (λ done. TellsMember (F.map files.old) set (key x.now.named) x.now.member → FoundToUnsubscribe (F.map files.old) config.now sender.now set x.now.named done) }
-    ensures act { AnswersLooking (is_changed_for set x.now.named) ⟦<F as Files>⟧ (is_read_to_unsubscribe config.now sender.now set x.now.named) files.old files.new result }
+    ensures apart { IsTrue F.tells → IfOk result (λ done. (dir : Dir) (p : Plain) → Alike (is_read_by_request change config.now sender.now set x.now.named) (F.map files.old) dir → IsList dir p → p.config ≡ config.now → IsSubject p set x.now → DoesList dir done (requested change now.seconds sender.now set x.now.who p)) }
+    ensures found { IsTrue F.tells → IfOk result (λ done. TellsMember (F.map files.old) set (key x.now.named) x.now.member → FoundByRequest (F.map files.old) set (key x.now.named) (reads.asks_rank_to change config.now) sender.now (cases.asked change config.now.flags set) done) }
+    ensures act { AnswersLooking (is_written_to change set x.now.named) ⟦<F as Files>⟧ (is_read_by_request change config.now sender.now set x.now.named) files.old files.new result }
 {
-    let moderator = moderates(alloc, files, config.flags.r, sender)?;
+    let moderator = is_moderator_if(alloc, files, asks_rank(change, config), sender)?;
     let facts = Facts {
         moderator,
         member: x.member,
         own: x.who.same(sender),
     };
-    let operation = leaving(config, set, facts);
-    do_leaving(alloc, files, config, now, set, sender, x, operation)
+    let action = decide(config, change, set, facts);
+    carry_out(alloc, files, config, now, set, sender, x, action)
 }
 
 /// A sender confirms that an address joins a set or leaves it, with a cookie for the address. The set is one that requests name. What it
@@ -190,7 +191,8 @@ fn confirm_found<F: Files>(
     ensures act { AnswersLooking (is_written_to_confirm word set x.now.named) ⟦<F as Files>⟧ (is_read_to_confirm word set x.now.named) files.old files.new result }
 {
     let good = is_signed(alloc, files, now.seconds, word, set, time, cookie, &x.who)?;
-    do_confirmation(alloc, files, config, now, sender, word, set, good, x)
+    let action = confirmed(config, word, x.member, good);
+    carry_out(alloc, files, config, now, set, sender, x, action)
 }
 
 // Whether letters are a good cookie of a confirmation of an address.
@@ -213,40 +215,4 @@ fn is_signed<F: Files>(
     let what = key_of(alloc, x)?;
     let kind = word_text(word);
     Ok(good_cookie(&keys, kind, set, time, what.as_slice(), cookie, now))
-}
-
-// Does what follows from a confirmation, with letters that are a good cookie or not.
-fn do_confirmation<F: Files>(
-    alloc: Global,
-    files: &mut F,
-    config: &Config,
-    now: Moment,
-    sender: &Address,
-    word: Word,
-    set: Set,
-    good: bool,
-    x: &Subject,
-) -> Result<(Txn, Reply), PartError>
-    requires config { IsConfig config.now }
-    requires asked { IsTrue (is_asked set) }
-    requires room { IsTrue F.tells → HasIds (F.map files.now) }
-    ensures apart { IsTrue F.tells → IfOk result (λ done. (dir : Dir) (p : Plain) → Alike (is_read_to_confirm word set x.now.named) (F.map files.old) dir → IsList dir p → p.config ≡ config.now → IsSubject p set x.now → DoesList dir done (spec.done now.seconds set sender.now x.now.who p (spec.confirming p set x.now.who word good))) }
-    ensures found { IsTrue F.tells → IfOk result (FoundToDo (F.map files.old) set (key x.now.named) (confirming word config.now x.now.member good)) }
-    ensures act { AnswersLooking (is_written_to_confirm word set x.now.named) ⟦<F as Files>⟧ (is_read_to_confirm word set x.now.named) files.old files.new result }
-{
-    let member = x.member;
-    match word {
-        Word::Uc => {
-            let operation = confirmed_leaving(member, good);
-            do_leaving(alloc, files, config, now, set, sender, x, operation)
-        }
-        Word::Sc => {
-            let operation = confirmed_joining(config.flags.s, member, good);
-            do_joining(alloc, files, config, now, set, sender, x, operation)
-        }
-        Word::Tc => {
-            let operation = confirmed_joining(false, member, good);
-            do_joining(alloc, files, config, now, set, sender, x, operation)
-        }
-    }
 }

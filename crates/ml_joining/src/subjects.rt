@@ -99,8 +99,8 @@ pub(crate) fn find_subject<F: Files>(
     }
 }
 
-// Whether the sender is a moderator, if that is asked, otherwise false.
-pub(crate) fn moderates<F: Files>(
+/// Whether the sender is a moderator, if that is asked; otherwise false.
+pub fn is_moderator_if<F: Files>(
     alloc: Global,
     files: &mut F,
     asked: bool,

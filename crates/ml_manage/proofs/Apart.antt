@@ -64,9 +64,9 @@ bucket_apart old dir set who has p alike is tells =
     let own = bucket_name set (bucket_of (key who)) in
     member_apart old dir set (key who) has p (alike own (same_self own)) tells is
 
--- whether a sender may be told who is in a set, if that depends on whether he is a moderator
-pub lister_apart : (c : Config) (sender : Text) (p : Plain) (b : Bool) → c.flags.l ≡ true → p.config ≡ c → b ≡ is_moderator p sender → b ≡ (p.config.flags.l && is_moderator p sender)
-lister_apart c sender p b on same e = e ∙ ap (λ (t : Bool). t && is_moderator p sender) (sym (ap (λ (k : Config). k.flags.l) same ∙ on))
+-- whether a sender may be told who is in a set
+pub lister_apart : (c : Config) (sender : Text) (p : Plain) (b : Bool) → p.config ≡ c → b ≡ (c.flags.l && is_moderator p sender) → b ≡ (p.config.flags.l && is_moderator p sender)
+lister_apart c sender p b same e = e ∙ ap (λ (k : Config). k.flags.l && is_moderator p sender) (sym same)
 
 module _ (old dir : Dir) where
   -- which numbers were used

@@ -29,9 +29,14 @@ module _ (dir : Dir) (c : Config) (k : Text) where
   open_by true free only tells = (free, λ _. tells)
   open_by false free only tells = inr (only, tells)
 
-  pub lister_by : (b : Bool) → c.flags.l ≡ true → TellsMember dir sets.Moderators k b → TellsLister dir c k b
-  lister_by true on tells = (on, tells)
-  lister_by false on tells = λ _. tells
+  -- a moderator may be told who is in a set, if that is asked
+  pub lister_by : (b : Bool) → (c.flags.l ≡ true → TellsMember dir sets.Moderators k b) → (c.flags.l ≡ false → b ≡ false) → TellsLister dir c k b
+  lister_by false tells unasked = tells
+  lister_by true tells unasked = go c.flags.l tells unasked
+    where
+      go : (l : Bool) → (l ≡ true → TellsMember dir sets.Moderators k true) → (l ≡ false → true ≡ false) → (l ≡ true) × TellsMember dir sets.Moderators k true
+      go true tells unasked = (refl, tells refl)
+      go false tells unasked = absurd (let bad : true ≡ false = unasked refl in cc)
 
 -- what holds anyway holds of an answer
 pub always_ok : {T E P : Type 0} (r : Result T E) → P → IfOk r (λ _. P)

@@ -79,22 +79,18 @@ module _ (r : Request) (managed : is_managed (request_view r) ≡ true) where
   is_helped (inr (inr (inr (inr (inr (inr (inr (inr (inr (ticket, cookie, e)))))))))) = absurd (unmanaged (requests.Reject ticket cookie) e refl)
 
 -- a request that is neither a post nor a moderator's answer
-pub is_other : (r : Request) → (r ≡ requests.Post → ⊥) → ((ticket : ℕ) (cookie : List ℕ) → r ≡ requests.Accept ticket cookie → ⊥) → ((ticket : ℕ) (cookie : List ℕ) → r ≡ requests.Reject ticket cookie → ⊥)
-    → true ≡ is_other_than_posts (request_view r)
-is_other requests.Post n0 n1 n2 = absurd (n0 refl)
-is_other requests.Help n0 n1 n2 = refl
-is_other requests.Owner n0 n1 n2 = refl
-is_other (requests.Subscribe set who) n0 n1 n2 = refl
-is_other (requests.Unsubscribe set who) n0 n1 n2 = refl
-is_other (requests.Members set) n0 n1 n2 = refl
-is_other (requests.Confirm word set time cookie who) n0 n1 n2 = refl
-is_other (requests.Get from to) n0 n1 n2 = refl
-is_other (requests.Index at) n0 n1 n2 = refl
-is_other (requests.Thread at) n0 n1 n2 = refl
-is_other (requests.Accept ticket cookie) n0 n1 n2 = absurd (n1 ticket cookie refl)
-is_other (requests.Reject ticket cookie) n0 n1 n2 = absurd (n2 ticket cookie refl)
-is_other (requests.Bounce set number who) n0 n1 n2 = refl
-is_other (requests.WarnBounce set time cookie who) n0 n1 n2 = refl
-is_other (requests.ProbeBounce set time cookie who) n0 n1 n2 = refl
-is_other (requests.ReplyBounce set) n0 n1 n2 = refl
-is_other requests.Other n0 n1 n2 = refl
+pub is_other : (r : Request) → (r ≡ requests.Help) ⊎ ((r ≡ requests.Owner) ⊎ (((set : Set) × (who : Option Who) × (r ≡ requests.Subscribe set who)) ⊎ (((set : Set) × (who : Option Who) × (r ≡ requests.Unsubscribe set who)) ⊎ (((set : Set) × (r ≡ requests.Members set)) ⊎ (((word : Word) × (set : Set) × (time : ℕ) × (cookie : List ℕ) × (who : Who) × (r ≡ requests.Confirm word set time cookie who)) ⊎ (((from : ℕ) × (to : Option ℕ) × (r ≡ requests.Get from to)) ⊎ (((at : ℕ) × (r ≡ requests.Index at)) ⊎ (((at : ℕ) × (r ≡ requests.Thread at)) ⊎ (((set : Set) × (number : ℕ) × (who : Who) × (r ≡ requests.Bounce set number who)) ⊎ (((set : Set) × (time : ℕ) × (cookie : List ℕ) × (who : Who) × (r ≡ requests.WarnBounce set time cookie who)) ⊎ (((set : Set) × (time : ℕ) × (cookie : List ℕ) × (who : Who) × (r ≡ requests.ProbeBounce set time cookie who)) ⊎ (((set : Set) × (r ≡ requests.ReplyBounce set)) ⊎ (r ≡ requests.Other))))))))))))) → true ≡ is_other_than_posts (request_view r)
+is_other r (inl e) = rw e refl
+is_other r (inr (inl e)) = rw e refl
+is_other r (inr (inr (inl (set, who, e)))) = rw e refl
+is_other r (inr (inr (inr (inl (set, who, e))))) = rw e refl
+is_other r (inr (inr (inr (inr (inl (set, e)))))) = rw e refl
+is_other r (inr (inr (inr (inr (inr (inl (word, set, time, cookie, who, e))))))) = rw e refl
+is_other r (inr (inr (inr (inr (inr (inr (inl (from, to, e)))))))) = rw e refl
+is_other r (inr (inr (inr (inr (inr (inr (inr (inl (at, e))))))))) = rw e refl
+is_other r (inr (inr (inr (inr (inr (inr (inr (inr (inl (at, e)))))))))) = rw e refl
+is_other r (inr (inr (inr (inr (inr (inr (inr (inr (inr (inl (set, number, who, e))))))))))) = rw e refl
+is_other r (inr (inr (inr (inr (inr (inr (inr (inr (inr (inr (inl (set, time, cookie, who, e)))))))))))) = rw e refl
+is_other r (inr (inr (inr (inr (inr (inr (inr (inr (inr (inr (inr (inl (set, time, cookie, who, e))))))))))))) = rw e refl
+is_other r (inr (inr (inr (inr (inr (inr (inr (inr (inr (inr (inr (inr (inl (set, e)))))))))))))) = rw e refl
+is_other r (inr (inr (inr (inr (inr (inr (inr (inr (inr (inr (inr (inr (inr e))))))))))))) = rw e refl

@@ -3,3 +3,4 @@ pub mod Leaving
 pub mod Texts
 pub mod Written
 pub mod Found
+pub mod Parts

@@ -21,7 +21,8 @@ ghost use Rattle.ml_base.specs.Address.{key};
 ghost use Rattle.ml_plain.specs.Answers as answers;
 ghost use Rattle.ml_joining.specs.Found.{SendsMail};
 ghost use Rattle.ml_manage.specs.Found.{FoundToRead, TellsIndex, TellsOpen, TellsRange, TellsReader, TellsSubscriber, TellsThread};
-ghost use Rattle.ml_manage.specs.Reads.{AlikeEach, IsDamagedAmong, IsDamagedPost, is_of_index, is_of_posts, is_of_reader, is_of_thread, is_post_file, is_post_within, is_seen_of_posts, is_seen_of_thread};
+ghost use Rattle.ml_manage.specs.Reads.{AlikeEach, IsDamagedAmong, IsDamagedPost, is_of_index, is_of_posts, is_of_reader, is_of_thread, is_seen_of_posts, is_seen_of_thread};
+ghost use Rattle.ml_manage.specs.Parts as parts;
 ghost use Rattle.ml_manage.specs.Texts as words;
 
 use crate::members::is_member;
@@ -34,69 +35,57 @@ use ml_plain::Reply;
 use ml_reply::Mail;
 use std::alloc::Global;
 
-// The posts from one number to another, or one post, for a sender to whom the archive is open.
-pub(crate) fn get<F: Files>(
-    alloc: Global,
-    files: &mut F,
-    config: &Config,
-    now: Moment,
-    sender: &Address,
-    from: u64,
-    to: Option<u64>,
-) -> Result<(Txn, Reply), PartError>
-    requires room { IsTrue F.tells → HasIds (F.map files.now) }
-    ensures apart { IsTrue F.tells → IfOk result (λ done. (dir : Dir) (p : Plain) → Alike (λ name. is_post_within from (unwrap_or to from) name || (is_of_reader config.now sender.now name || is_of_posts from (unwrap_or to from) name || same_name name ids_name)) (F.map files.old) dir → IsList dir p → p.config ≡ config.now → DoesList dir done (spec.from_archive now.seconds sender.now p (spec.may_read p sender.now) (texts.get_text p from to))) }
-    ensures found { IsTrue F.tells → IfOk result (FoundToRead (F.map files.old) config.now (key sender.now) (TellsRange (F.map files.old) from (unwrap_or to from))) }
-    ensures act { AnswersWithin is_of_queue ⟦<F as Files>⟧ (λ name. (is_of_reader config.now sender.now name || is_of_posts from (unwrap_or to from) name || same_name name ids_name) ≡ true) (IsDamagedOf (F.map files.old) (Range from (unwrap_or to from))) files.old files.new result }
-{
-    if !may_read(alloc, files, config, sender)? {
-        return Ok((Txn::new(alloc), Reply::plain(Reply::PRIVATE)));
-    }
-    let lines = get_text(alloc, files, config, from, to)?;
-    mail_lines(alloc, files, config, now, sender, lines)
+// A part of the archive that a request asks for.
+#[derive(Clone, Copy, PartialEq, Eq)]
+pub(crate) enum Part {
+    // The posts from one number to another, or one post.
+    Posts(u64, Option<u64>),
+    // The thread of a post.
+    Thread(u64),
+    // The index of a post's group.
+    Index(u64),
 }
 
-// The thread of a post, for a sender to whom the archive is open.
-pub(crate) fn thread_of<F: Files>(
+// A part of the archive, for a sender to whom the archive is open.
+pub(crate) fn send_part<F: Files>(
     alloc: Global,
     files: &mut F,
     config: &Config,
     now: Moment,
     sender: &Address,
-    at: u64,
+    part: Part,
 ) -> Result<(Txn, Reply), PartError>
     requires room { IsTrue F.tells → HasIds (F.map files.now) }
     requires loaded { IsTrue F.tells → IsConfigFile (F.map files.now config_name) config.now }
-    ensures apart { IsTrue F.tells → IfOk result (λ done. (dir : Dir) (p : Plain) → Alike (λ name. is_post_file name || (is_of_reader config.now sender.now name || is_of_thread name || same_name name ids_name)) (F.map files.old) dir → IsList dir p → p.config ≡ config.now → DoesList dir done (spec.from_archive now.seconds sender.now p (spec.may_read p sender.now) (texts.thread_text p at))) }
-    ensures found { IsTrue F.tells → IfOk result (FoundToRead (F.map files.old) config.now (key sender.now) (TellsThread (F.map files.old) config.now.prefix at)) }
-    ensures act { AnswersWithin is_of_queue ⟦<F as Files>⟧ (λ name. (is_of_reader config.now sender.now name || is_of_thread name || same_name name ids_name) ≡ true) (IsDamagedOf (F.map files.old) (ThreadOf config.now.prefix at)) files.old files.new result }
+    ensures apart { IsTrue F.tells → IfOk result (λ done. (dir : Dir) (p : Plain) → Alike (λ name. parts.is_post_of part name || (is_of_reader config.now sender.now name || parts.is_of part name || same_name name ids_name)) (F.map files.old) dir → IsList dir p → p.config ≡ config.now → DoesList dir done (spec.from_archive now.seconds sender.now p (spec.may_read p sender.now) (parts.text_of p part))) }
+    ensures found { IsTrue F.tells → IfOk result (FoundToRead (F.map files.old) config.now (key sender.now) (parts.TellsPart (F.map files.old) config.now part)) }
+    ensures act { AnswersWithin is_of_queue ⟦<F as Files>⟧ (λ name. (is_of_reader config.now sender.now name || parts.is_of part name || same_name name ids_name) ≡ true) (IsDamagedOf (F.map files.old) (parts.asked_of config.now part)) files.old files.new result }
 {
     if !may_read(alloc, files, config, sender)? {
         return Ok((Txn::new(alloc), Reply::plain(Reply::PRIVATE)));
     }
-    let lines = thread_text(alloc, files, config, at)?;
+    let lines = part_text(alloc, files, config, part)?;
     mail_lines(alloc, files, config, now, sender, lines)
 }
 
-// The index of a post's group, for a sender to whom the archive is open.
-pub(crate) fn index_of<F: Files>(
+// The text of a part.
+fn part_text<F: Files>(
     alloc: Global,
     files: &mut F,
     config: &Config,
-    now: Moment,
-    sender: &Address,
-    at: u64,
-) -> Result<(Txn, Reply), PartError>
-    requires room { IsTrue F.tells → HasIds (F.map files.now) }
-    ensures apart { IsTrue F.tells → IfOk result (λ done. (dir : Dir) (p : Plain) → Alike (λ name. is_of_reader config.now sender.now name || is_of_index at name || same_name name ids_name) (F.map files.old) dir → IsList dir p → p.config ≡ config.now → DoesList dir done (spec.from_archive now.seconds sender.now p (spec.may_read p sender.now) (texts.index_text p at))) }
-    ensures found { IsTrue F.tells → IfOk result (FoundToRead (F.map files.old) config.now (key sender.now) (TellsIndex (F.map files.old) (at / 100))) }
-    ensures act { AnswersWithin is_of_queue ⟦<F as Files>⟧ (λ name. (is_of_reader config.now sender.now name || is_of_index at name || same_name name ids_name) ≡ true) (IsDamagedOf (F.map files.old) (Group (at / 100))) files.old files.new result }
+    part: Part,
+) -> Result<Bytes, PartError>
+    requires { IsTrue F.tells → IsConfigFile (F.map files.now config_name) config.now }
+    ensures apart { IsTrue F.tells → IfOk result (λ text. (dir : Dir) (p : Plain) → Alike (parts.is_seen_of part) (F.map files.old) dir → IsList dir p → p.config ≡ config.now → text ≡ parts.text_of p part) }
+    ensures found { IsTrue F.tells → IfOk result (λ _. parts.TellsPart (F.map files.old) config.now part) }
+    ensures names { NamesDamaged ⟦<F as Files>⟧ (λ name. parts.is_of part name ≡ true) (IsDamagedOf (F.map files.old) (parts.asked_of config.now part)) result }
+    ensures reads { IsReading ⟦<F as Files>⟧ files.old files.new result }
 {
-    if !may_read(alloc, files, config, sender)? {
-        return Ok((Txn::new(alloc), Reply::plain(Reply::PRIVATE)));
+    match part {
+        Part::Posts(from, to) => get_text(alloc, files, config, from, to),
+        Part::Thread(at) => thread_text(alloc, files, config, at),
+        Part::Index(at) => index_text(alloc, files, at),
     }
-    let lines = index_text(alloc, files, at)?;
-    mail_lines(alloc, files, config, now, sender, lines)
 }
 
 // Whether the archive is open to a sender.

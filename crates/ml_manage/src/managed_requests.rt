@@ -15,6 +15,19 @@ pub fn is_managed(request: &Request<'_>) -> bool
         Request::Post => false,
         Request::Accept { .. } => false,
         Request::Reject { .. } => false,
-        _ => true,
+        Request::Help
+        | Request::Owner
+        | Request::Subscribe { .. }
+        | Request::Unsubscribe { .. }
+        | Request::Members { .. }
+        | Request::Confirm { .. }
+        | Request::Get { .. }
+        | Request::Index { .. }
+        | Request::Thread { .. }
+        | Request::Bounce { .. }
+        | Request::WarnBounce { .. }
+        | Request::ProbeBounce { .. }
+        | Request::ReplyBounce { .. }
+        | Request::Other => true,
     }
 }

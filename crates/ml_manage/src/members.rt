@@ -1,8 +1,7 @@
 // Who is in a set, and who may know it.
-ghost use Rattle.std.specs.Prelude.{◌≡◌, ◌&&◌, ◌||◌, true, IsTrue, IfOk};
+ghost use Rattle.std.specs.Prelude.{◌≡◌, ◌&&◌, true, IsTrue, IfOk};
 ghost use Rattle.ml_base.specs.Dir.{Dir};
 ghost use Rattle.ml_base.specs.ReadFiles.{IsReading, NamesDamaged};
-ghost use Rattle.ml_base.specs.declared.names.Set.TheVariants as sets;
 ghost use Rattle.ml_plain.specs.Directory.{IsList};
 ghost use Rattle.ml_plain.specs.Managing as spec;
 ghost use Rattle.ml_plain.specs.Plain.{Plain, addresses, is_in, is_moderator};
@@ -14,12 +13,13 @@ ghost use Rattle.std.specs.Prelude.{List};
 ghost use Rattle.ml_base.specs.Address.{key};
 ghost use Rattle.ml_base.specs.Bytes.{Text};
 ghost use Rattle.ml_acts.specs.Found.{SpellsAddresses, TellsMember};
-ghost use Rattle.ml_manage.specs.Found.{FoundToList, TellsLister};
+ghost use Rattle.ml_manage.specs.Found.{FoundToList};
 ghost use Rattle.ml_manage.specs.Reads.{is_of_members};
 
 use ml_acts::{Moment, with_mail};
 use ml_base::{Address, Bytes, Files, PartError, Set, Txn};
 use ml_config::Config;
+use ml_joining::is_moderator_if;
 use ml_plain::Reply;
 use ml_reply::Mail;
 use ml_subs::{all, member};
@@ -54,7 +54,7 @@ pub(crate) fn members<F: Files>(
     ensures found { IsTrue F.tells → IfOk result (FoundToList (F.map files.old) config.now set (key sender.now)) }
     ensures act { AnswersWithin is_of_queue ⟦<F as Files>⟧ (λ name. is_of_members config.now sender.now set name ≡ true) (IsDamaged (F.map files.old)) files.old files.new result }
 {
-    if !may_list(alloc, files, config, sender)? {
+    if !is_moderator_if(alloc, files, config.flags.l, sender)? {
         return Ok((Txn::new(alloc), Reply::plain(Reply::PRIVATE)));
     }
     let mail = members_mail(alloc, files, sender, set)?;
@@ -69,24 +69,6 @@ pub(crate) fn members<F: Files>(
         mail,
         reply,
     )
-}
-
-// Whether a sender may be told who is in a set.
-fn may_list<F: Files>(
-    alloc: Global,
-    files: &mut F,
-    config: &Config,
-    sender: &Address,
-) -> Result<bool, PartError>
-    ensures apart { IsTrue F.tells → IfOk result (λ is. (dir : Dir) (p : Plain) → Alike (λ name. config.now.flags.l && is_bucket_of sets.Moderators sender.now name) (F.map files.old) dir → IsList dir p → p.config ≡ config.now → is ≡ (p.config.flags.l && is_moderator p sender.now)) }
-    ensures found { IsTrue F.tells → IfOk result (TellsLister (F.map files.old) config.now (key sender.now)) }
-    ensures names { NamesDamaged ⟦<F as Files>⟧ (λ name. (config.now.flags.l && is_bucket_of sets.Moderators sender.now name) ≡ true) (IsDamaged (F.map files.old)) result }
-    ensures reads { IsReading ⟦<F as Files>⟧ files.old files.new result }
-{
-    if !config.flags.l {
-        return Ok(false);
-    }
-    is_member(alloc, files, Set::Moderators, sender)
 }
 
 // The mail that shows a sender the members of a set, in order.

@@ -24,7 +24,7 @@ ghost use Rattle.ml_manage.specs.Leaving.{signed};
 ghost use Rattle.ml_manage.specs.Reads.{IsDamagedFor, is_asked_of, is_managed, is_of_bounce, is_of_probe, is_of_warning, is_read_for, is_read_for_sender, is_seen_for, is_seen_for_sender, is_seen_of};
 ghost use Rattle.ml_manage.specs.Written.{is_written_for, is_written_for_sender, is_written_of};
 
-use crate::archive::{get, index_of, thread_of};
+use crate::archive::{Part, send_part};
 use crate::bounces::{take_bounce, take_probe_bounce, take_warning_bounce};
 use crate::help_and_owner::{send_help, to_owner};
 use crate::members::members;
@@ -249,9 +249,11 @@ fn manage_checked<F: Files>(
             alloc, files, config, now, sender, *word, *set, *time, cookie, *who,
         ),
         Request::Members { set } => members(alloc, files, config, now, sender, *set),
-        Request::Get { from, to } => get(alloc, files, config, now, sender, *from, *to),
-        Request::Index { at } => index_of(alloc, files, config, now, sender, *at),
-        Request::Thread { at } => thread_of(alloc, files, config, now, sender, *at),
+        Request::Get { from, to } => {
+            send_part(alloc, files, config, now, sender, Part::Posts(*from, *to))
+        }
+        Request::Index { at } => send_part(alloc, files, config, now, sender, Part::Index(*at)),
+        Request::Thread { at } => send_part(alloc, files, config, now, sender, Part::Thread(*at)),
         Request::Help
         | Request::Other
         | Request::Owner

@@ -9,7 +9,8 @@ use Rattle.ml_joining.specs.Reads.{is_read_to_confirm}
 use Rattle.ml_joining.proofs.Apart.{alike_kept, asked_apart}
 use Rattle.ml_joining.proofs.Spared.{bucket_alone, read_failed, read_more}
 use Rattle.ml_joining.proofs.Asked.{subject_is}
-use Rattle.ml_joining.proofs.Ways.{bucket_to_confirm}
+use Rattle.ml_joining.proofs.Ways.{bucket_to}
+use Rattle.ml_joining.specs.Operations.{change_of}
 use Rattle.ml_acts.proofs.Found.{found_then}
 use Rattle.ml_base.specs.Address.{key}
 use Rattle.ml_acts.specs.Found.{TellsMember}
@@ -32,7 +33,7 @@ returns-clause-apart g c told =
     asked_apart c.confirm_found.result c.args.config.now (λ (dir : Dir). Alike few new dir) (λ (dir : Dir). Alike looked old dir)
     (λ dir alike. alike_kept few looked old new dir same (λ name e. subst (λ (t : Text). is_read_to_confirm word set t name ≡ true) named e) alike)
     (λ p. spec.confirm c.args.now.seconds c.args.sender.now word set (record { time = c.args.time; cookie = c.args.cookie.now; who = who_view c.args.who }) x.who p) (λ p. spec.confirm c.args.now.seconds c.args.sender.now word set (record { time = c.args.time; cookie = c.args.cookie.now; who = who_view c.args.who }) (spec.subject_of p set c.args.sender.now (Some (who_view c.args.who))) p) set x
-    (λ dir p alike is. c.in_ok-x.ensures.apart told dir p (λ name b. alike name (bucket_to_confirm set asked name word b)) is)
+    (λ dir p alike is. c.in_ok-x.ensures.apart told dir p (λ name b. alike name (bucket_to (change_of word) set asked name b)) is)
     (λ dir p alike is e about. ap (λ (t : Text). spec.confirm c.args.now.seconds c.args.sender.now word set (record { time = c.args.time; cookie = c.args.cookie.now; who = who_view c.args.who }) t p) (subject_is p set x about c.args.sender.now (Some (who_view c.args.who)) named))
     (c.confirm_found.ensures.apart told)
 
@@ -41,7 +42,7 @@ returns-in_err-x-clause-act g c =
     let set = c.args.set in
     let word = c.args.word in
     let asked = address_named (who_view c.args.who) in
-    read_failed (is_bucket_of set asked) (is_read_to_confirm word set asked) (bucket_alone set asked) (λ name b. bucket_to_confirm set asked name word b)
+    read_failed (is_bucket_of set asked) (is_read_to_confirm word set asked) (bucket_alone set asked) (λ name b. bucket_to (change_of word) set asked name b)
     c.in_err-x.ensures.names c.in_err-x.ensures.reads (search rules)
 
 pub returns-clause-act : goal.returns-clause-act

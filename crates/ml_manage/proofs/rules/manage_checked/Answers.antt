@@ -32,14 +32,14 @@ use Rattle.ml_manage.proofs.rules.manage_checked.Goals as goal
 pub members-requires : goal.members-requires
 members-requires g c = record { room = λ told. room_ids (g.F.Files.map c.args.files.now) (c.requires.room told) }
 
-pub get-requires : goal.get-requires
-get-requires g c = record { room = λ told. room_ids (g.F.Files.map c.args.files.now) (c.requires.room told) }
+pub send_part-requires-clause-room : goal.send_part-requires-clause-room
+send_part-requires-clause-room g c told = room_ids (g.F.Files.map c.args.files.now) (c.requires.room told)
 
-pub index_of-requires : goal.index_of-requires
-index_of-requires g c = record { room = λ told. room_ids (g.F.Files.map c.args.files.now) (c.requires.room told) }
+pub send_part-requires-in-Index-clause-room : goal.send_part-requires-in-Index-clause-room
+send_part-requires-in-Index-clause-room g c told = room_ids (g.F.Files.map c.args.files.now) (c.requires.room told)
 
-pub thread_of-requires-clause-room : goal.thread_of-requires-clause-room
-thread_of-requires-clause-room g c told = room_ids (g.F.Files.map c.args.files.now) (c.requires.room told)
+pub send_part-requires-in-Thread-clause-room : goal.send_part-requires-in-Thread-clause-room
+send_part-requires-in-Thread-clause-room g c told = room_ids (g.F.Files.map c.args.files.now) (c.requires.room told)
 
 pub send_help-requires : goal.send_help-requires
 send_help-requires g c = record { room = λ told. room_ids (g.F.Files.map c.args.files.now) (c.requires.room told) }
@@ -67,13 +67,13 @@ pub returns-in-Members-clause-act : goal.returns-in-Members-clause-act
 returns-in-Members-clause-act g c = for_other g.F.Files (is_written_of c.args.sender.now) (λ r name. is_asked_of c.args.config.now c.args.sender.now r name ≡ true) c.in-Members.is (λ name. tt) c.members.ensures.act
 
 pub returns-in-Get-clause-act : goal.returns-in-Get-clause-act
-returns-in-Get-clause-act g c = for_asked g.F.Files (is_written_of c.args.sender.now) (λ r name. is_asked_of c.args.config.now c.args.sender.now r name ≡ true) c.in-Get.is _ (λ name own. own) c.get.ensures.act
+returns-in-Get-clause-act g c = for_asked g.F.Files (is_written_of c.args.sender.now) (λ r name. is_asked_of c.args.config.now c.args.sender.now r name ≡ true) c.in-Get.is _ (λ name own. own) c.send_part.ensures.act
 
 pub returns-in-Index-clause-act : goal.returns-in-Index-clause-act
-returns-in-Index-clause-act g c = for_asked g.F.Files (is_written_of c.args.sender.now) (λ r name. is_asked_of c.args.config.now c.args.sender.now r name ≡ true) c.in-Index.is _ (λ name own. own) c.index_of.ensures.act
+returns-in-Index-clause-act g c = for_asked g.F.Files (is_written_of c.args.sender.now) (λ r name. is_asked_of c.args.config.now c.args.sender.now r name ≡ true) c.in-Index.is _ (λ name own. own) c.send_part-in-Index.ensures.act
 
 pub returns-in-Thread-clause-act : goal.returns-in-Thread-clause-act
-returns-in-Thread-clause-act g c = for_asked g.F.Files (is_written_of c.args.sender.now) (λ r name. is_asked_of c.args.config.now c.args.sender.now r name ≡ true) c.in-Thread.is _ (λ name own. own) c.thread_of.ensures.act
+returns-in-Thread-clause-act g c = for_asked g.F.Files (is_written_of c.args.sender.now) (λ r name. is_asked_of c.args.config.now c.args.sender.now r name ≡ true) c.in-Thread.is _ (λ name own. own) c.send_part-in-Thread.ensures.act
 
 pub returns-in-Subscribe-clause-act : goal.returns-in-Subscribe-clause-act
 returns-in-Subscribe-clause-act g c = for_looking g.F.Files (is_written_of c.args.sender.now) (λ r name. is_asked_of c.args.config.now c.args.sender.now r name ≡ true) c.in-Subscribe.is (λ name. tt) c.subscribe.ensures.act
@@ -102,15 +102,15 @@ returns-in-Members-clause-found g c told =
 
 pub returns-in-Get-clause-found : goal.returns-in-Get-clause-found
 returns-in-Get-clause-found g c told =
-    subst (λ (r : Request). IfOk c.get.result (FoundManaged (g.F.Files.map c.args.files.now) c.args.config.now c.args.sender.now (request_view r))) (sym c.in-Get.is) (c.get.ensures.found told)
+    subst (λ (r : Request). IfOk c.send_part.result (FoundManaged (g.F.Files.map c.args.files.now) c.args.config.now c.args.sender.now (request_view r))) (sym c.in-Get.is) (c.send_part.ensures.found told)
 
 pub returns-in-Index-clause-found : goal.returns-in-Index-clause-found
 returns-in-Index-clause-found g c told =
-    subst (λ (r : Request). IfOk c.index_of.result (FoundManaged (g.F.Files.map c.args.files.now) c.args.config.now c.args.sender.now (request_view r))) (sym c.in-Index.is) (c.index_of.ensures.found told)
+    subst (λ (r : Request). IfOk c.send_part-in-Index.result (FoundManaged (g.F.Files.map c.args.files.now) c.args.config.now c.args.sender.now (request_view r))) (sym c.in-Index.is) (c.send_part-in-Index.ensures.found told)
 
 pub returns-in-Thread-clause-found : goal.returns-in-Thread-clause-found
 returns-in-Thread-clause-found g c told =
-    subst (λ (r : Request). IfOk c.thread_of.result (FoundManaged (g.F.Files.map c.args.files.now) c.args.config.now c.args.sender.now (request_view r))) (sym c.in-Thread.is) (c.thread_of.ensures.found told)
+    subst (λ (r : Request). IfOk c.send_part-in-Thread.result (FoundManaged (g.F.Files.map c.args.files.now) c.args.config.now c.args.sender.now (request_view r))) (sym c.in-Thread.is) (c.send_part-in-Thread.ensures.found told)
 
 pub returns-in-Subscribe-clause-found : goal.returns-in-Subscribe-clause-found
 returns-in-Subscribe-clause-found g c told =
@@ -132,13 +132,13 @@ pub returns-in-Members-clause-apart : goal.returns-in-Members-clause-apart
 returns-in-Members-clause-apart g c told = done_for c.members.result _ _ (is_seen_of c.args.config.now c.args.sender.now) (spec.managed c.args.now.seconds c.args.sender.now) c.in-Members.is (c.members.ensures.apart told)
 
 pub returns-in-Get-clause-apart : goal.returns-in-Get-clause-apart
-returns-in-Get-clause-apart g c told = done_for c.get.result _ _ (is_seen_of c.args.config.now c.args.sender.now) (spec.managed c.args.now.seconds c.args.sender.now) c.in-Get.is (c.get.ensures.apart told)
+returns-in-Get-clause-apart g c told = done_for c.send_part.result _ _ (is_seen_of c.args.config.now c.args.sender.now) (spec.managed c.args.now.seconds c.args.sender.now) c.in-Get.is (c.send_part.ensures.apart told)
 
 pub returns-in-Index-clause-apart : goal.returns-in-Index-clause-apart
-returns-in-Index-clause-apart g c told = done_for c.index_of.result _ _ (is_seen_of c.args.config.now c.args.sender.now) (spec.managed c.args.now.seconds c.args.sender.now) c.in-Index.is (c.index_of.ensures.apart told)
+returns-in-Index-clause-apart g c told = done_for c.send_part-in-Index.result _ _ (is_seen_of c.args.config.now c.args.sender.now) (spec.managed c.args.now.seconds c.args.sender.now) c.in-Index.is (c.send_part-in-Index.ensures.apart told)
 
 pub returns-in-Thread-clause-apart : goal.returns-in-Thread-clause-apart
-returns-in-Thread-clause-apart g c told = done_for c.thread_of.result _ _ (is_seen_of c.args.config.now c.args.sender.now) (spec.managed c.args.now.seconds c.args.sender.now) c.in-Thread.is (c.thread_of.ensures.apart told)
+returns-in-Thread-clause-apart g c told = done_for c.send_part-in-Thread.result _ _ (is_seen_of c.args.config.now c.args.sender.now) (spec.managed c.args.now.seconds c.args.sender.now) c.in-Thread.is (c.send_part-in-Thread.ensures.apart told)
 
 pub returns-in-Help-clause-apart : goal.returns-in-Help-clause-apart
 returns-in-Help-clause-apart g c told =
@@ -172,13 +172,13 @@ returns-in-Get-clause-spared g c told =
     let part : Name → Bool = is_of_posts a b in
     let posts : Name → Bool = is_post_within a b in
     let asked = Range a b in
-    spared_for c.get.result old conf (is_seen_of c.args.config.now c.args.sender.now) c.in-Get.is
+    spared_for c.send_part.result old conf (is_seen_of c.args.config.now c.args.sender.now) c.in-Get.is
     (λ dir p alike is same.
     let seen = answer_part old dir conf sender (is_seen_of_posts a b) (answer_whole old dir conf sender part posts alike) in
-    none_named g.F.Files c.get.result (λ name. (is_of_reader conf sender name || part name || same_name name ids_name) ≡ true) (IsDamagedOf old asked) told
+    none_named g.F.Files c.send_part.result (λ name. (is_of_reader conf sender name || part name || same_name name ids_name) ≡ true) (IsDamagedOf old asked) told
     (λ name e bad. part_none old dir p is conf sender part asked
     (λ name own bad. range_none old dir p.posts (is.archive).filed a b seen name (or_left (part name) (posts name) own) (bad.own (posts_archived name a b (or_left (part name) (posts name) own)))) name e
-    (alike name (or_right (posts name) (is_of_reader conf sender name || part name || same_name name ids_name) e)) bad) c.get.ensures.act.names)
+    (alike name (or_right (posts name) (is_of_reader conf sender name || part name || same_name name ids_name) e)) bad) c.send_part.ensures.act.names)
 
 pub returns-in-Index-clause-spared : goal.returns-in-Index-clause-spared
 returns-in-Index-clause-spared g c told =
@@ -188,9 +188,9 @@ returns-in-Index-clause-spared g c told =
     let at = c.in-Index.at in
     let part : Name → Bool = is_of_index at in
     let asked = Group (at / 100) in
-    spared_for c.index_of.result old conf (is_seen_of c.args.config.now c.args.sender.now) c.in-Index.is
-    (λ dir p alike is same. none_named g.F.Files c.index_of.result (λ name. (is_of_reader conf sender name || part name || same_name name ids_name) ≡ true) (IsDamagedOf old asked) told
-    (λ name e bad. part_none old dir p is conf sender part asked (λ name own bad. group_none old dir p.posts (is.archive).filed at name (answer_part old dir conf sender part alike) own (bad.own (group_archived name at own))) name e (alike name e) bad) c.index_of.ensures.act.names)
+    spared_for c.send_part-in-Index.result old conf (is_seen_of c.args.config.now c.args.sender.now) c.in-Index.is
+    (λ dir p alike is same. none_named g.F.Files c.send_part-in-Index.result (λ name. (is_of_reader conf sender name || part name || same_name name ids_name) ≡ true) (IsDamagedOf old asked) told
+    (λ name e bad. part_none old dir p is conf sender part asked (λ name own bad. group_none old dir p.posts (is.archive).filed at name (answer_part old dir conf sender part alike) own (bad.own (group_archived name at own))) name e (alike name e) bad) c.send_part-in-Index.ensures.act.names)
 
 pub returns-in-Thread-clause-spared : goal.returns-in-Thread-clause-spared
 returns-in-Thread-clause-spared g c told =
@@ -203,13 +203,13 @@ returns-in-Thread-clause-spared g c told =
     let most = leb-true at 99_999_999 range.1 in
     let part : Name → Bool = is_of_thread in
     let asked = ThreadOf conf.prefix at in
-    spared_for c.thread_of.result old conf (is_seen_of c.args.config.now c.args.sender.now) c.in-Thread.is
+    spared_for c.send_part-in-Thread.result old conf (is_seen_of c.args.config.now c.args.sender.now) c.in-Thread.is
     (λ dir p alike is same.
     let seen = answer_part old dir conf sender is_seen_of_thread (answer_whole old dir conf sender part is_post_file alike) in
-    none_named g.F.Files c.thread_of.result (λ name. (is_of_reader conf sender name || part name || same_name name ids_name) ≡ true) (IsDamagedOf old asked) told
+    none_named g.F.Files c.send_part-in-Thread.result (λ name. (is_of_reader conf sender name || part name || same_name name ids_name) ≡ true) (IsDamagedOf old asked) told
     (λ name e bad. part_none old dir p is conf sender part asked
     (λ name own bad. thread_none old dir conf.prefix p.posts (subst (λ (k : Config). IsArchive dir k.prefix p.posts) same is.archive) at low most seen name (bad.own (threads_archived name (or_left (part name) (is_post_file name) own)))) name e
-    (alike name (or_right (is_post_file name) (is_of_reader conf sender name || part name || same_name name ids_name) e)) bad) c.thread_of.ensures.act.names)
+    (alike name (or_right (is_post_file name) (is_of_reader conf sender name || part name || same_name name ids_name) e)) bad) c.send_part-in-Thread.ensures.act.names)
 
 pub returns-in-Help-clause-spared : goal.returns-in-Help-clause-spared
 returns-in-Help-clause-spared g c told dir p alike is same =

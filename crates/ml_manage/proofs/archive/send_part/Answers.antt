@@ -1,11 +1,9 @@
 use Rattle.std.proofs.Common.{◌∙◌, true, sym, subst, rules, false, [], Bool}
-use Rattle.std.specs.Prelude.{unwrap_or}
 use Rattle.ml_base.specs.Dir.{Dir}
-use Rattle.ml_plain.specs.ArchiveText.{get_text}
+use Rattle.ml_config.specs.ConfigFile.{IsConfigFile, config_name}
 use Rattle.ml_plain.specs.Managing.{may_read}
-use Rattle.ml_acts.specs.Asked.{Range}
 use Rattle.ml_acts.specs.Doing.{HasIds}
-use Rattle.ml_manage.specs.Reads.{is_of_posts, is_post_within, is_seen_of_posts}
+use Rattle.ml_manage.specs.Parts as parts
 use Rattle.ml_manage.proofs.OfArchive.{answer_act, reader_named, part_named}
 use Rattle.ml_manage.proofs.Sending.{closed, opened}
 use Rattle.ml_base.proofs.ReadingLemmas.{kept_read, kept_then, reading_then}
@@ -13,34 +11,39 @@ use Rattle.ml_base.specs.Address.{key}
 use Rattle.ml_plain.specs.Answers as answers
 use Rattle.ml_acts.proofs.Found.{found_then}
 use Rattle.ml_joining.specs.Found.{SendsMail}
-use Rattle.ml_manage.specs.Found.{FoundToRead, TellsReader, TellsRange}
+use Rattle.ml_manage.specs.Found.{FoundToRead, TellsReader}
 use Rattle.ml_manage.proofs.Apart.{answer_ids, answer_part, answer_reader, answer_whole, kept_alike, kept_same}
 use Rattle.ml_acts.proofs.Damages.{ok_then}
 use Rattle.ml_queue.specs.Answers.{ids_name}
 use Rattle.ml_base.specs.declared.names.Name.{Name}
 use Rattle.ml_acts.proofs.OfActs.{act_err}
-use Rattle.ml_manage.proofs.archive.get.Goals as goal
+use Rattle.ml_manage.proofs.archive.send_part.Goals as goal
+
+pub part_text-requires : goal.part_text-requires
+part_text-requires g c told =
+    let first = g.met.F.Files.kept_map c.args.files.now c.may_read.new.files told c.may_read.ensures.reads.kept in
+    subst (λ (d : Dir). IsConfigFile (d config_name) c.args.config.now) (sym first) (c.requires.loaded told)
 
 pub mail_lines-requires : goal.mail_lines-requires
 mail_lines-requires g c = record {
   room = λ told.
       let first = g.met.F.Files.kept_map c.args.files.now c.may_read.new.files told c.may_read.ensures.reads.kept in
-      let all = g.met.F.Files.kept_map c.may_read.new.files c.get_text.new.files told c.get_text.ensures.reads.kept ∙ first in
+      let all = g.met.F.Files.kept_map c.may_read.new.files c.part_text.new.files told c.part_text.ensures.reads.kept ∙ first in
       subst (λ (d : Dir). HasIds d) (sym all) (c.requires.room told);
 }
 
 pub returns-in_err-may_read-clause-act : goal.returns-in_err-may_read-clause-act
 returns-in_err-may_read-clause-act g c =
-    let names = reader_named g.F.Files (Range c.args.from (unwrap_or c.args.to c.args.from)) c.args.config.now c.args.sender.now (is_of_posts c.args.from (unwrap_or c.args.to c.args.from)) _ (g.F.Files.map c.args.files.now) c.in_err-may_read.ensures.names in
+    let names = reader_named g.F.Files (parts.asked_of c.args.config.now c.args.part) c.args.config.now c.args.sender.now (parts.is_of c.args.part) _ (g.F.Files.map c.args.files.now) c.in_err-may_read.ensures.names in
     search rules
 
 pub returns-clause-act : goal.returns-clause-act
 returns-clause-act g c =
     let first = c.args.files.now in
-    let second = c.get_text.new.files in
+    let second = c.part_text.new.files in
     let on = g.met.F.Files.kept_then in
-    let kept = kept_then g.F.Files on first c.may_read.new.files second (kept_read g.F.Files first c.may_read.new.files c.may_read.result c.may_read.ensures.reads) (kept_read g.F.Files c.may_read.new.files second c.get_text.result c.get_text.ensures.reads) in
-    answer_act g.F.Files (Range c.args.from (unwrap_or c.args.to c.args.from)) c.args.config.now c.args.sender.now (is_of_posts c.args.from (unwrap_or c.args.to c.args.from)) c.mail_lines.result on first second c.mail_lines.new.files kept (λ told. g.met.F.Files.kept_map first second told kept.kept) c.mail_lines.ensures.act
+    let kept = kept_then g.F.Files on first c.may_read.new.files second (kept_read g.F.Files first c.may_read.new.files c.may_read.result c.may_read.ensures.reads) (kept_read g.F.Files c.may_read.new.files second c.part_text.result c.part_text.ensures.reads) in
+    answer_act g.F.Files (parts.asked_of c.args.config.now c.args.part) c.args.config.now c.args.sender.now (parts.is_of c.args.part) c.mail_lines.result on first second c.mail_lines.new.files kept (λ told. g.met.F.Files.kept_map first second told kept.kept) c.mail_lines.ensures.act
 
 pub returns-then-not-branch-clause-found : goal.returns-then-not-branch-clause-found
 returns-then-not-branch-clause-found g c told = record {
@@ -55,10 +58,10 @@ returns-clause-found g c told =
     let conf = c.args.config.now in
     let k = key c.args.sender.now in
     let first = g.met.F.Files.kept_map c.args.files.now c.may_read.new.files told c.may_read.ensures.reads.kept in
-    let all = g.met.F.Files.kept_map c.may_read.new.files c.get_text.new.files told c.get_text.ensures.reads.kept ∙ first in
+    let all = g.met.F.Files.kept_map c.may_read.new.files c.part_text.new.files told c.part_text.ensures.reads.kept ∙ first in
     let may = subst (TellsReader old conf k) c.if-not-branch.false (c.in_ok-may_read.ensures.found told) in
-    let read = subst (λ (d : Dir). TellsRange d c.args.from (unwrap_or c.args.to c.args.from)) first (c.in_ok-lines.ensures.found told) in
-    found_then c.mail_lines.result old (g.F.Files.map c.get_text.new.files) (λ d. SendsMail d [] answers.archive) (FoundToRead old conf k (TellsRange old c.args.from (unwrap_or c.args.to c.args.from))) all
+    let read = subst (λ (d : Dir). parts.TellsPart d c.args.config.now c.args.part) first (c.in_ok-lines.ensures.found told) in
+    found_then c.mail_lines.result old (g.F.Files.map c.part_text.new.files) (λ d. SendsMail d [] answers.archive) (FoundToRead old conf k (parts.TellsPart old conf c.args.part)) all
     (λ done sent. record { may = true; tells = may; follows = (read, sent) }) (c.mail_lines.ensures.found told)
 
 pub returns-then-not-branch-clause-apart : goal.returns-then-not-branch-clause-apart
@@ -66,36 +69,31 @@ returns-then-not-branch-clause-apart g c told dir p alike is same =
     let old = g.F.Files.map c.args.files.now in
     let conf = c.args.config.now in
     let sender = c.args.sender.now in
-    let a = c.args.from in
-    let b = unwrap_or c.args.to a in
-    let whole = answer_whole old dir conf sender (is_of_posts a b) (is_post_within a b) alike in
-    closed dir p c.args.now.seconds sender (c.new.result, c.plain.result) (may_read p sender) (get_text p a c.args.to) is
-    (sym (c.in_ok-may_read.ensures.apart told dir p (answer_reader old dir conf sender (is_seen_of_posts a b) whole) is same) ∙ c.if-not-branch.true) c.new.ensures c.plain.ensures
+    let whole = answer_whole old dir conf sender (parts.is_of c.args.part) (parts.is_post_of c.args.part) alike in
+    closed dir p c.args.now.seconds sender (c.new.result, c.plain.result) (may_read p sender) (parts.text_of p c.args.part) is
+    (sym (c.in_ok-may_read.ensures.apart told dir p (answer_reader old dir conf sender (parts.is_seen_of c.args.part) whole) is same) ∙ c.if-not-branch.true) c.new.ensures c.plain.ensures
 
 pub returns-clause-apart : goal.returns-clause-apart
 returns-clause-apart g c told =
     let old = g.F.Files.map c.args.files.now in
     let conf = c.args.config.now in
     let sender = c.args.sender.now in
-    let a = c.args.from in
-    let b = unwrap_or c.args.to a in
-    let part : Name → Bool = is_seen_of_posts a b in
+    let part : Name → Bool = parts.is_seen_of c.args.part in
     let first = g.met.F.Files.kept_map c.args.files.now c.may_read.new.files told c.may_read.ensures.reads.kept in
-    let all = g.met.F.Files.kept_map c.may_read.new.files c.get_text.new.files told c.get_text.ensures.reads.kept ∙ first in
+    let all = g.met.F.Files.kept_map c.may_read.new.files c.part_text.new.files told c.part_text.ensures.reads.kept ∙ first in
     ok_then c.mail_lines.result
     (λ done does dir p alike is same.
-    let whole = answer_whole old dir conf sender (is_of_posts a b) (is_post_within a b) alike in
-    opened dir p c.args.now.seconds sender done (may_read p sender) (get_text p a c.args.to) c.in_ok-lines.lines
+    let whole = answer_whole old dir conf sender (parts.is_of c.args.part) (parts.is_post_of c.args.part) alike in
+    opened dir p c.args.now.seconds sender done (may_read p sender) (parts.text_of p c.args.part) c.in_ok-lines.lines
     (sym (c.in_ok-may_read.ensures.apart told dir p (answer_reader old dir conf sender part whole) is same) ∙ c.if-not-branch.false)
     (c.in_ok-lines.ensures.apart told dir p (kept_alike part old (g.F.Files.map c.may_read.new.files) dir first (answer_part old dir conf sender part whole)) is same)
-    (does dir p (kept_same ids_name old (g.F.Files.map c.get_text.new.files) dir all (answer_ids old dir conf sender part whole)) is same))
+    (does dir p (kept_same ids_name old (g.F.Files.map c.part_text.new.files) dir all (answer_ids old dir conf sender part whole)) is same))
     (c.mail_lines.ensures.apart told)
 
 pub returns-in_err-lines-clause-act : goal.returns-in_err-lines-clause-act
 returns-in_err-lines-clause-act g c =
     let first = c.args.files.now in
     let second = c.may_read.new.files in
-    let last = unwrap_or c.args.to c.args.from in
     let kept = kept_read g.F.Files first second c.may_read.result c.may_read.ensures.reads in
-    let names = part_named g.F.Files (Range c.args.from last) c.args.config.now c.args.sender.now (is_of_posts c.args.from last) _ (g.F.Files.map second) (g.F.Files.map first) (λ told. g.met.F.Files.kept_map first second told kept.kept) c.in_err-lines.ensures.names in
-    act_err names (reading_then g.F.Files g.met.F.Files.kept_then first second c.get_text.new.files _ kept c.in_err-lines.ensures.reads) (λ name e. e) (search rules)
+    let names = part_named g.F.Files (parts.asked_of c.args.config.now c.args.part) c.args.config.now c.args.sender.now (parts.is_of c.args.part) _ (g.F.Files.map second) (g.F.Files.map first) (λ told. g.met.F.Files.kept_map first second told kept.kept) c.in_err-lines.ensures.names in
+    act_err names (reading_then g.F.Files g.met.F.Files.kept_then first second c.part_text.new.files _ kept c.in_err-lines.ensures.reads) (λ name e. e) (search rules)

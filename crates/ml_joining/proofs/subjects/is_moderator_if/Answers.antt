@@ -8,7 +8,7 @@ use Rattle.std.proofs.lemmas.Bool.{and_from}
 use Rattle.ml_base.specs.declared.names.Set.TheVariants as sets
 use Rattle.ml_acts.specs.Doing.{is_bucket_of}
 use Rattle.ml_acts.proofs.Damages.{bucket_named, ok_then, same_self}
-use Rattle.ml_joining.proofs.subjects.moderates.Goals as goal
+use Rattle.ml_joining.proofs.subjects.is_moderator_if.Goals as goal
 
 pub returns-clause-names : goal.returns-clause-names
 returns-clause-names g c =
