@@ -4,12 +4,12 @@ use crate::parts::{Parts, file, push_number, word};
 use crate::program::Calls;
 use crate::table_call::{Asked, NoAnswer};
 use ml_base::{Bytes, Name, Set, Txn, is_moment, is_post_number};
-use ml_bounce::{Action, act, audit, due, forget, note, probe_failed, warn_failed};
+use ml_bounce::{Action, act, audit, due, forget, is_probed_at, note, probe_failed, warn_failed};
 use std::alloc::{AllocError, Global};
 use std::test::Fail;
 use trials_scripts::hold;
 
-/// What a call answers: the changes below, `due MAX` the actions of the clock's moment, and `audit`.
+/// What a call answers: the changes below, `due MAX` the actions of the clock's moment, `probed ADDRESS MOMENT`, and `audit`.
 pub(crate) fn answer(
     alloc: Global,
     parts: &mut Parts,
@@ -21,6 +21,13 @@ pub(crate) fn answer(
     } else if verb == "audit" {
         audit(alloc, parts)?;
         word(alloc, b"sound")
+    } else if verb == "probed" {
+        let who = asked.address(alloc, 0)?;
+        if is_probed_at(alloc, parts, Set::List, &who, asked.number(1)?)? {
+            word(alloc, b"yes")
+        } else {
+            word(alloc, b"no")
+        }
     } else {
         after(alloc, parts, asked)
     }
@@ -156,6 +163,8 @@ put bounce/] {probed} | at 1002020009 | run ledgers bounced A@B 8 => 0 {probed_m
 put bounce/] {probed} | at 1002020001 | run ledgers warning A@B 1002020000 => 0 none
 put bounce/] {probed} | run ledgers probe A@B 1002019999 => 0 none
 put bounce/] {probed} | run ledgers probe A@B 1002020000 => 0 -
+put bounce/] {probed} | run ledgers probed A@B 1002020000 => 0 yes | run ledgers probed A@B 1002019999 => 0 no | run ledgers probed et@b 1002020000 => 0 no
+put bounce/] {failed} | run ledgers probed A@B 1001020000 => 0 no
 put bounce/] {probed} | at 1003019999 | run ledgers served => 0 none
 put bounce/] {probed} | at 1003020000 | run ledgers served => 0 -
 put bounce/] {probed_missed} | run ledgers probe A@B 1002020000 => 0 -
@@ -191,7 +200,7 @@ put bounce/] 30:3:a@b,12:253402300800,1:n,1:1,, | run ledgers audit => 75 damage
 put bounce/] 20:3:a@b,1:5,1:n,3:1,1,, | run ledgers audit => 75 damaged 15 29 | at 7 | run ledgers bounced A@B 2 => 75 damaged 15 29 | run ledgers due 1 => 75 damaged 15 29
 put bounce/] 314:3:a@b,1:5,1:n,295:1,2,3,4,5,6,7,8,9,10,11,12,13,14,15,16,17,18,19,20,21,22,23,24,25,26,27,28,29,30,31,32,33,34,35,36,37,38,39,40,41,42,43,44,45,46,47,48,49,50,51,52,53,54,55,56,57,58,59,60,61,62,63,64,65,66,67,68,69,70,71,72,73,74,75,76,77,78,79,80,81,82,83,84,85,86,87,88,89,90,91,92,93,94,95,96,97,98,99,100,101,, | run ledgers audit => 75 damaged 15 29 | at 7 | run ledgers bounced A@B 2 => 75 damaged 15 29 | run ledgers due 1 => 75 damaged 15 29
 put bounce/] 17:3:a@b,1:0,1:n,0:,, | run ledgers audit => 75 damaged 15 29 | at 7 | run ledgers bounced A@B 2 => 75 damaged 15 29 | run ledgers due 1 => 75 damaged 15 29
-put bounce/] 18:3:a@b,1:5,2:p7,0:,, | run ledgers audit => 75 damaged 15 29 | at 7 | run ledgers bounced A@B 2 => 75 damaged 15 29 | run ledgers due 1 => 75 damaged 15 29
+put bounce/] 18:3:a@b,1:5,2:p7,0:,, | run ledgers audit => 75 damaged 15 29 | run ledgers probed A@B 7 => 75 damaged 15 29 | at 7 | run ledgers bounced A@B 2 => 75 damaged 15 29 | run ledgers due 1 => 75 damaged 15 29
 put bounce/] 19:4:et@b,1:5,1:n,1:1,,18:3:a@b,1:5,1:n,1:1,, | run ledgers audit => 75 damaged 15 29 | at 7 | run ledgers bounced A@B 2 => 75 damaged 15 29 | run ledgers due 1 => 75 damaged 15 29
 put bounce/] 18:3:a@b,1:5,1:n,1:1,,18:3:a@b,1:5,1:n,1:1,, | run ledgers audit => 75 damaged 15 29 | at 7 | run ledgers bounced A@B 2 => 75 damaged 15 29 | run ledgers due 1 => 75 damaged 15 29
 put bounce/] 18:3:b@b,1:5,1:n,1:1,, | run ledgers audit => 75 damaged 15 29 | at 7 | run ledgers bounced A@B 2 => 75 damaged 15 29 | run ledgers due 1 => 75 damaged 15 29
