@@ -7,7 +7,6 @@ use Rattle.ml_base.specs.Dir.{Dir}
 use Rattle.ml_acts.specs.Doing.{Alike, is_bucket_of}
 use Rattle.ml_acts.proofs.OfActs.{act_wider}
 use Rattle.ml_joining.specs.Reads.{asks_rank_to, is_read_by_request}
-use Rattle.ml_joining.specs.Written.{is_written_to}
 use Rattle.ml_joining.proofs.Apart.{alike_kept, asked_apart}
 use Rattle.ml_joining.proofs.Spared.{bucket_alone, read_failed, read_more}
 use Rattle.ml_joining.proofs.Asked.{subject_is}
