@@ -1,17 +1,15 @@
-use Rattle.std.proofs.Common.{◌≡◌, ◌<◌, ◌||◌, inl, true, arith, rules, refl, sym, ap, ap₂, ◌∙◌, subst, ℕ}
+use Rattle.std.proofs.Common.{◌≡◌, ◌<◌, ◌+◌, ◌||◌, inl, true, arith, rules, refl, sym, ap, ap₂, ◌∙◌, subst, ℕ}
 use Rattle.std.proofs.lemmas.Bool.{or_left}
 use Rattle.ml_base.specs.Bytes.{Text}
-use Rattle.ml_base.specs.Dir.{Dir, same_name, touches_only}
+use Rattle.ml_base.specs.Dir.{Dir, same_name}
 use Rattle.ml_base.specs.PartErrors.{OnDamaged}
 use Rattle.ml_base.specs.declared.names.Set.TheVariants as sets
 use Rattle.ml_base.proofs.DamagedNames.{on_both, on_damaged}
 use Rattle.ml_base.proofs.ReadingLemmas.{kept_then, kept_read, reading_then, reading_ok}
-use Rattle.ml_filing.specs.Answers.{IsAppendName, IsBadForAppend, IsNoNumber, puts_of, IsAppended, new_post}
+use Rattle.ml_filing.specs.Answers.{IsAppendName, IsBadForAppend, IsNoNumber, IsAppended, new_post}
 use Rattle.ml_filing.specs.Archive.{number_name, IsNumberFile}
 use Rattle.ml_filing.specs.Reads.{IsOfNext}
 use Rattle.ml_filing.specs.Subjects.{subject, subject_key}
-use Rattle.ml_filing.specs.Threads.{is_of_archive}
-use Rattle.ml_filing.specs.declared.posts.Appended.{Appended}
 use Rattle.ml_filing.specs.declared.posts.Appended.TheVariants.{At}
 use Rattle.ml_acts.specs.Asked.{IsDamagedOf, Next}
 use Rattle.ml_acts.specs.Damaged.{IsDamaged, append, number}
@@ -170,7 +168,7 @@ returns-in_err-txn-clause-spared g c told dir p alike is =
     (subst (λ (d : Dir). OnDamaged e (IsDamaged d)) kept (failed.damaged told)) in
     search rules
 
-pub append_next-requires-count : goal.append_next-requires-count
-append_next-requires-count g c told =
+pub append_next-requires-clause-count : goal.append_next-requires-clause-count
+append_next-requires-clause-count g c told =
     let kept = g.met.F.Files.kept_map c.args.files.now c.count.new.files told c.count.ensures.reads.kept in
     subst (λ (d : Dir). IsNumberFile (d number_name) c.in_ok-count.count) (sym kept) (c.in_ok-count.ensures.read told)
