@@ -1,27 +1,29 @@
 -- The verdict on a post, on every directory that has the files that tell it.
-use Rattle.std.proofs.Common.{◌≡◌, ◌<◌, ℕ, Bool, true, false, ◌&&◌, ◌||◌, [], ◌∷◌, length, inl, inr, Option, refl, sym, ap, ap₂, ◌∙◌, subst, arith}
+use Rattle.std.proofs.Common.{◌≡◌, ◌<◌, ℕ, Bool, true, false, ◌&&◌, ◌||◌, [], ◌∷◌, length, inl, inr, Option, Some, None, refl, sym, ap, ap₂, ◌∙◌, subst, arith}
 use Rattle.std.specs.Prelude.{not}
 use Rattle.std.proofs.lemmas.Bool.{and_from, le-leb, lt-leb, or_left, or_right}
 use Rattle.ml_base.specs.Address.{key}
-use Rattle.ml_base.specs.Bytes.{Text}
+use Rattle.ml_base.specs.Bytes.{Text, is_empty, lower}
 use Rattle.ml_base.specs.Dir.{Dir, same_name}
 use Rattle.ml_base.specs.declared.names.Name.{Name}
 use Rattle.ml_base.specs.declared.names.Set.{Set}
 use Rattle.ml_base.specs.declared.names.Set.TheVariants as sets
 use Rattle.ml_filing.specs.Archive.{IsNumberFile, number_name}
+use Rattle.ml_filing.specs.Subjects.{subject}
 use Rattle.ml_filing.proofs.Looking.{counted_is}
 use Rattle.ml_config.specs.declared.configuration.Config.{Config}
 use Rattle.ml_subs.specs.Buckets.{bucket_of}
 use Rattle.ml_subs.specs.Subscribers.{bucket_name}
 use Rattle.ml_plain.specs.Directory.{IsList}
 use Rattle.ml_plain.specs.Plain.{Plain, first_row, is_archive_full, is_in}
-use Rattle.ml_plain.specs.Verdicts.{Verdict, Denied, Full, Held, Posted, UsersOnly, is_user}
+use Rattle.ml_plain.specs.Verdicts.{Verdict, CommandSubject, Denied, Full, Held, NoSubject, NotAddressed, Posted, UsersOnly, is_addressed, is_command, is_user}
 use Rattle.ml_acts.specs.Doing.{Alike, is_bucket_of}
 use Rattle.ml_acts.specs.Found.{EitherTells, TellsMember}
 use Rattle.ml_acts.proofs.Apart.{member_apart}
 use Rattle.ml_acts.proofs.Damages.{same_self}
-use Rattle.ml_post.specs.Found.{FoundOfRoom, FoundOfUser, TellsDenied, TellsStranger, TellsUser}
+use Rattle.ml_post.specs.Found.{FoundOfRoom, TellsDenied, TellsRefusal, TellsStranger, TellsText, TellsUser}
 use Rattle.ml_post.specs.Judging.{is_judged_by, is_of_user, of_room, of_sender, of_text, of_user, row_of}
+use Rattle.ml_post.proofs.Rows.{no_row, row_first, row_second, row_third}
 use Rattle.ml_post.specs.declared.verdicts.Verdict.{Verdict as Found}
 use Rattle.ml_post.specs.declared.verdicts.Verdict.TheVariants as found
 
@@ -141,25 +143,38 @@ module _ (c : Config) (who : Text) where
         ap₂ last_rows (sym (ap (λ (d : Config). d.flags.m) same ∙ full.0)) (sym (is_full_apart old dir p (alike number_name (number_looked full.0)) is full.1))
     room_row found.Posted room =
         ap₂ last_rows (sym (ap (λ (d : Config). d.flags.m) same ∙ room.0)) (sym (has_room_apart old dir p (room.1).0 (alike number_name (number_looked room.0)) is (room.1).1 (room.1).2))
-    room_row found.TooBig none = absurd none
-    room_row found.BounceSender none = absurd none
-    room_row found.Looped none = absurd none
-    room_row found.Denied none = absurd none
-    room_row found.NoSubject none = absurd none
-    room_row found.CommandSubject none = absurd none
-    room_row found.NotAddressed none = absurd none
-    room_row found.UsersOnly none = absurd none
+    room_row v none = absurd none
 
-    -- after a row that doesn't hold
-    after : (v : Found) → TellsStranger old c (key who) false → FoundOfRoom old c v → row_of v ≡ of_user p who
-    after v may room = room_row v room ∙ ap (λ (x : Bool). first_row ((x, UsersOnly) ∷ []) (of_room p)) (stranger_is false may)
+    -- the rows of the text
+    abbrev text_rows : Text → Verdict → Verdict
+    text_rows m rest = first_row ((is_empty (subject m), NoSubject) ∷ (is_command (lower (subject m)), CommandSubject) ∷ (not (is_addressed p.config m), NotAddressed) ∷ []) rest
 
-    pub user_row : (v : Found) → FoundOfUser old c (key who) v → row_of v ≡ of_user p who
-    user_row found.UsersOnly tells = ap (λ (x : Bool). first_row ((x, UsersOnly) ∷ []) (of_room p)) (stranger_is true tells)
-    user_row v tells = after v tells.0 tells.1
+    addressed_is : (m : Text) (b : Bool) → is_addressed c m ≡ b → not (is_addressed p.config m) ≡ not b
+    addressed_is m b e = ap (λ (d : Config). not (is_addressed d m)) same ∙ ap not e
 
-    pub denied_row : (m : Text) → TellsDenied old c (key who) true → Denied ≡ of_sender p who m
-    denied_row m tells = ap (λ (x : Bool). first_row ((x, Denied) ∷ []) (of_text p who m)) (denied_is true tells)
+    text_refused : (m : Text) (v : Found) (rest : Verdict) → TellsText c m (Some v) → row_of v ≡ text_rows m rest
+    text_refused m found.NoSubject rest e = sym (row_first (is_empty (subject m)) (is_command (lower (subject m))) (not (is_addressed p.config m)) NoSubject CommandSubject NotAddressed rest e)
+    text_refused m found.CommandSubject rest e = sym (row_second (is_empty (subject m)) (is_command (lower (subject m))) (not (is_addressed p.config m)) NoSubject CommandSubject NotAddressed rest e.0 e.1)
+    text_refused m found.NotAddressed rest e =
+        sym (row_third (is_empty (subject m)) (is_command (lower (subject m))) (not (is_addressed p.config m)) NoSubject CommandSubject NotAddressed rest e.0 e.1 (addressed_is m false e.2))
+    text_refused m v rest e = absurd e
 
-    pub sender_row : (m : Text) (v : Verdict) → TellsDenied old c (key who) false → v ≡ of_text p who m → v ≡ of_sender p who m
-    sender_row m v tells e = e ∙ ap (λ (x : Bool). first_row ((x, Denied) ∷ []) (of_text p who m)) (denied_is false tells)
+    text_taken : (m : Text) (rest : Verdict) → TellsText c m None → rest ≡ text_rows m rest
+    text_taken m rest e =
+        sym (no_row (is_empty (subject m)) (is_command (lower (subject m))) (not (is_addressed p.config m)) NoSubject CommandSubject NotAddressed rest e.0 e.1 (addressed_is m true e.2))
+
+    -- the row of a sender
+    user_row : (b : Bool) → TellsStranger old c (key who) b → first_row ((b, UsersOnly) ∷ []) (of_room p) ≡ of_user p who
+    user_row b tells = ap (λ (x : Bool). first_row ((x, UsersOnly) ∷ []) (of_room p)) (stranger_is b tells)
+
+    sender_row : (m : Text) (b : Bool) → TellsDenied old c (key who) b → first_row ((b, Denied) ∷ []) (of_text p who m) ≡ of_sender p who m
+    sender_row m b tells = ap (λ (x : Bool). first_row ((x, Denied) ∷ []) (of_text p who m)) (denied_is b tells)
+
+    -- the row by which a post is refused whatever room there is, or that of the room
+    pub refused_row : (m : Text) (v : Found) → TellsRefusal old c (key who) m (Some v) → row_of v ≡ of_sender p who m
+    refused_row m found.Denied tells = sender_row m true tells
+    refused_row m found.UsersOnly tells = user_row true tells.2 ∙ text_taken m (of_user p who) tells.1 ∙ sender_row m false tells.0
+    refused_row m v tells = text_refused m v (of_user p who) tells.1 ∙ sender_row m false tells.0
+
+    pub taken_row : (m : Text) (v : Found) → TellsRefusal old c (key who) m None → FoundOfRoom old c v → row_of v ≡ of_sender p who m
+    taken_row m v tells room = room_row v room ∙ user_row false tells.2 ∙ text_taken m (of_user p who) tells.1 ∙ sender_row m false tells.0

@@ -6,7 +6,6 @@ use Rattle.ml_base.specs.Ranges.{is_drawn}
 use Rattle.ml_base.specs.declared.names.Name.{Name}
 use Rattle.ml_base.specs.declared.puts.Put.{Put}
 use Rattle.ml_base.proofs.Laid.{laid_joined}
-use Rattle.ml_filing.specs.declared.posts.Appended.TheVariants.{At}
 use Rattle.ml_config.specs.KeyFile.{key_name}
 use Rattle.ml_hold.specs.Answers.{IsPostName, post_name, tickets_name}
 use Rattle.ml_hold.specs.Held.{without_ticket}
@@ -24,7 +23,7 @@ use Rattle.ml_post.specs.Publishing.{Publishes, is_published_by}
 
 -- a post is accepted if the archive has room
 pub accepts : (dir : Dir) (p : Plain) (now ticket : ℕ) (h : Held) (n : ℕ) (taken more : List Put) (done : List Put × Reply)
-    → Publishes (with_puts dir taken) now h.sender h.message (record p { held = without_ticket ticket p.held }) (At n more) → done.0 ≡ taken ++ more → done.1 ≡ answers.posted n
+    → Publishes (with_puts dir taken) now h.sender h.message (record p { held = without_ticket ticket p.held }) n more → done.0 ≡ taken ++ more → done.1 ≡ answers.posted n
     → DoesList dir done (accepted now ticket h p (is_archive_full p))
 accepts dir p now ticket h n taken more done is e f =
     let after : Plain = record p { held = without_ticket ticket p.held } in

@@ -1,36 +1,25 @@
 -- What a verdict says of the rows before the one that was found.
-use Rattle.std.proofs.Common.{◌≡◌, ◌+◌, ℕ, Bool, true, false, cond, List, [], length, refl, sym, ap, ◌∙◌, subst}
-use Rattle.std.specs.Prelude.{codes, nat_lt, not, ◌&&◌, Some, None}
+use Rattle.std.proofs.Common.{◌≡◌, ℕ, Bool, true, false, cond, List, [], refl, sym, ap, ◌∙◌, subst}
+use Rattle.std.specs.Prelude.{Some, None}
 use Rattle.std.proofs.lemmas.Option.{same_Some}
 use Rattle.ml_base.specs.Address.{as_address, address_of}
-use Rattle.ml_base.specs.Bytes.{Text, is_empty, lower}
+use Rattle.ml_base.specs.Bytes.{Text}
 use Rattle.ml_base.specs.Dir.{Dir, with_puts}
-use Rattle.ml_base.specs.declared.names.Set.TheVariants as sets
 use Rattle.ml_base.specs.declared.puts.Put.{Put}
-use Rattle.ml_filing.specs.Answers.{puts_of}
-use Rattle.ml_filing.specs.Subjects.{subject}
-use Rattle.ml_filing.specs.declared.posts.Appended.{Appended}
-use Rattle.ml_filing.specs.declared.posts.Appended.TheVariants.{At, Full}
-use Rattle.ml_header.specs.Fields.{has_field}
 use Rattle.ml_plain.specs.declared.Reply.{Reply}
 use Rattle.ml_plain.specs.Answers as answers
 use Rattle.ml_plain.specs.Directory.{IsList}
-use Rattle.ml_plain.specs.Plain.{Plain, is_in, is_archive_full}
+use Rattle.ml_plain.specs.Plain.{Plain}
 use Rattle.ml_plain.specs.Posting.{by_verdict, held_now, post, posted_now, sent_text, with_text}
 use Rattle.ml_plain.specs.Verdicts.{verdict, is_usable, is_command, is_addressed, is_user}
 use Rattle.ml_plain.specs.Verdicts as verdicts
 use Rattle.ml_acts.specs.Doing.{DoesList}
 use Rattle.ml_post.specs.Judging as rows
-use Rattle.ml_post.specs.Posting.{outcome_of, reply_of}
+use Rattle.ml_post.specs.Posting.{outcome_of}
 use Rattle.ml_post.specs.Publishing.{Publishes}
 use Rattle.ml_post.specs.Outcomes as fates
 use Rattle.ml_post.specs.declared.verdicts.Verdict.{Verdict as Found}
 use Rattle.ml_post.specs.declared.verdicts.Verdict.TheVariants as found
-
--- a row before the one that was found doesn't hold
-past : {A : Type 0} (b : Bool) (x rest y : A) → cond b x rest ≡ y → (x ≡ y → ⊥) → (b ≡ false) × (rest ≡ y)
-past true x rest y e apart = absurd (apart e)
-past false x rest y e apart = (refl, e)
 
 -- whether a sender is an address, by what was read of him; one that is an address is kept as it was read
 pub none_read : (sender : Text) → address_of sender ≡ None → is_usable sender ≡ false
@@ -47,34 +36,6 @@ who_read sender who e = go (is_usable sender) refl
     go true is = (is, same_Some who (as_address sender) (sym e ∙ ap (λ (t : Bool). cond t (Some (as_address sender)) None) is))
     go false is = absurd (let bad : None ≡ Some who = sym (ap (λ (t : Bool). cond t (Some (as_address sender)) None) is) ∙ e in cc)
 
--- if it is found that a message is posted, the archive has room
-room_by : (p : Plain) → rows.of_room p ≡ verdicts.Posted → is_archive_full p ≡ false
-room_by p e =
-    let first = past p.config.flags.m verdicts.Held (cond (is_archive_full p) verdicts.Full verdicts.Posted) verdicts.Posted e (λ bad. cc) in
-    (past (is_archive_full p) verdicts.Full verdicts.Posted verdicts.Posted first.1 (λ bad. cc)).0
-
-user_by : (p : Plain) (who : Text) → rows.of_user p who ≡ verdicts.Posted → is_archive_full p ≡ false
-user_by p who e = room_by p (past (p.config.flags.u && not (is_user p who)) verdicts.UsersOnly (rows.of_room p) verdicts.Posted e (λ bad. cc)).1
-
-text_by : (p : Plain) (who m : Text) → rows.of_text p who m ≡ verdicts.Posted → is_archive_full p ≡ false
-text_by p who m e =
-    let third = cond (not (is_addressed p.config m)) verdicts.NotAddressed (rows.of_user p who) in
-    let second = cond (is_command (lower (subject m))) verdicts.CommandSubject third in
-    let one = past (is_empty (subject m)) verdicts.NoSubject second verdicts.Posted e (λ bad. cc) in
-    let two = past (is_command (lower (subject m))) verdicts.CommandSubject third verdicts.Posted one.1 (λ bad. cc) in
-    user_by p who (past (not (is_addressed p.config m)) verdicts.NotAddressed (rows.of_user p who) verdicts.Posted two.1 (λ bad. cc)).1
-
-pub posted_room : (p : Plain) (sender m : Text) → verdict p sender m ≡ verdicts.Posted → is_archive_full p ≡ false
-unfolding verdict
-posted_room p sender m e =
-    let fourth = rows.of_sender p sender m in
-    let third = cond (has_field (codes "mailing-list") m) verdicts.Looped fourth in
-    let second = cond (not (is_usable sender)) verdicts.BounceSender third in
-    let one = past (nat_lt p.config.max (length m)) verdicts.TooBig second verdicts.Posted e (λ bad. cc) in
-    let two = past (not (is_usable sender)) verdicts.BounceSender third verdicts.Posted one.1 (λ bad. cc) in
-    let three = past (has_field (codes "mailing-list") m) verdicts.Looped fourth verdicts.Posted two.1 (λ bad. cc) in
-    text_by p sender m (past (p.config.flags.k && is_in p sets.Deny sender) verdicts.Denied (rows.of_text p sender m) verdicts.Posted three.1 (λ bad. cc)).1
-
 -- an answer of no puts
 pub does_nothing : (dir : Dir) (done : List Put × Reply) (p : Plain) (reply : Reply) (step : Plain × Reply) → step ≡ (p, reply) → done.0 ≡ [] → done.1 ≡ reply → IsList dir p → DoesList dir done step
 does_nothing dir done p reply step is e f list =
@@ -84,14 +45,11 @@ does_nothing dir done p reply step is e f list =
     })
 
 -- an answer by which a message was posted
-pub posts : (dir : Dir) (p : Plain) (now : ℕ) (sender m : Text) (answer : Appended) (done : List Put × Reply) → Publishes dir now sender m p answer → is_archive_full p ≡ false → done.0 ≡ puts_of answer → done.1 ≡ reply_of answer
-    → DoesList dir done (posted_now now sender m p)
-posts dir p now sender m (At n txn) done is room e f = record {
-  reply = f ∙ ap answers.posted is.1;
-  list = subst (λ (puts : List Put). IsList (with_puts dir puts) (with_text now sender (sent_text p.config m) (length p.posts + 1) p)) (sym e)
-      (subst (λ (k : ℕ). IsList (with_puts dir txn) (with_text now sender (sent_text p.config m) k p)) is.1 is.2);
+pub posts : (dir : Dir) (p : Plain) (now : ℕ) (sender m : Text) (n : ℕ) (txn : List Put) (reply : Reply) → Publishes dir now sender m p n txn → reply ≡ answers.posted n → DoesList dir (txn, reply) (posted_now now sender m p)
+posts dir p now sender m n txn reply is e = record {
+  reply = e ∙ ap answers.posted is.1;
+  list = subst (λ (k : ℕ). IsList (with_puts dir txn) (with_text now sender (sent_text p.config m) k p)) is.1 is.2;
 }
-posts dir p now sender m Full done is room e f = absurd (let bad : true ≡ false = sym is ∙ room in cc)
 
 -- a message that is refused changes nothing
 refused_one : (a b : Reply) → fates.Refused a ≡ fates.Refused b → a ≡ b
@@ -117,10 +75,10 @@ module _ (dir : Dir) (p : Plain) (now : ℕ) (sender m : Text) (done : List Put 
       subst (λ (r : verdicts.Verdict). DoesList dir done (by_verdict now sender m p r)) row
       (subst (λ (s : Text). DoesList dir done (held_now now s m p)) (who_read sender who read).1 does)
 
-  pub follows_posted : (who : Text) → address_of sender ≡ Some who → verdicts.Posted ≡ verdict p sender m → (is_archive_full p ≡ false → DoesList dir done (posted_now now who m p)) → DoesList dir done (post now sender m p)
+  pub follows_posted : (who : Text) → address_of sender ≡ Some who → verdicts.Posted ≡ verdict p sender m → DoesList dir done (posted_now now who m p) → DoesList dir done (post now sender m p)
   follows_posted who read row does =
       subst (λ (r : verdicts.Verdict). DoesList dir done (by_verdict now sender m p r)) row
-      (subst (λ (s : Text). DoesList dir done (posted_now now s m p)) (who_read sender who read).1 (does (posted_room p sender m (sym row))))
+      (subst (λ (s : Text). DoesList dir done (posted_now now s m p)) (who_read sender who read).1 does)
 
   pub follows_refused : (v : Found) (reply : Reply) → outcome_of v ≡ fates.Refused reply → rows.row_of v ≡ verdict p sender m → done.0 ≡ [] → done.1 ≡ reply → IsList dir p → DoesList dir done (post now sender m p)
   follows_refused v reply outcome row e f is = does_nothing dir done p reply (post now sender m p) (ap (by_verdict now sender m p) (sym row) ∙ refused_is now sender m p reply v outcome) e f is

@@ -118,7 +118,7 @@ module _ (old dir : Dir) (p : Plain) (c : Config) (now : ℕ) (sender text : Tex
   pub publishes : (m : Text) (count n : ℕ) (txn done : List Put) → IsNumberFile (old number_name) count → text ≡ sent_text c m → touches_only is_of_archive txn ≡ true
       → ((dir : Dir) (posts : List Post) → IsArchive dir c.prefix posts → ReadsAlike old dir c.prefix (new_post sender now text) posts → AppendsTo dir c.prefix posts (new_post sender now text) (At n txn))
       → ((q : Plain) → IsList (with_puts dir txn) q → q.config ≡ c → IsList (with_puts dir done) (send (post_path q.config (count + 1)) text (addresses q sets.List) q))
-      → Publishes dir now sender m p (At (count + 1) done)
+      → Publishes dir now sender m p (count + 1) done
   publishes m count n txn done file e only appends mails = (
     lt-leb 99_999_999 (length p.posts) appended.0,
     ap (λ k. k + 1) (count_here count file),

@@ -6,24 +6,26 @@ use Rattle.ml_base.specs.declared.puts.Put.{Put}
 use Rattle.ml_config.specs.declared.configuration.Config.{Config}
 use Rattle.ml_drawn.specs.Answers.{IsTaking}
 use Rattle.ml_drawn.specs.declared.series.Series.TheVariants.{Tickets}
-use Rattle.ml_filing.specs.declared.posts.Appended.{Appended}
-use Rattle.ml_filing.specs.declared.posts.Appended.TheVariants.{At, Full}
+use Rattle.ml_filing.specs.Archive.{IsNumberFile, number_name}
 use Rattle.ml_hold.specs.Answers.{LooksBy}
 use Rattle.ml_hold.specs.declared.posts.Held.{Held}
 use Rattle.ml_plain.specs.Answers as answers
 use Rattle.ml_plain.specs.declared.Reply.{Reply}
 use Rattle.ml_acts.specs.Found.{AddsMail, Says, TellsKeys}
-use Rattle.ml_post.specs.Found.{FoundToPublish}
+use Rattle.ml_post.specs.Found.{FoundToAppend}
 
--- A post is accepted: it is posted and waits no longer, by the counter of tickets, unless the archive is full.
-abbrev pub FoundAccepted : Dir → ℕ → Appended → List Put × Reply → Type 0
-FoundAccepted dir ticket (At number more) done = (taken : List Put) × IsTaking dir Tickets ticket taken × (done.0 ≡ taken ++ more) × (done.1 ≡ answers.posted number)
-FoundAccepted dir ticket Full done = Says answers.full done
+-- A post is accepted: it is posted and waits no longer, by the counter of tickets. If the archive is full, nothing is done.
+pub record FoundAccepted (dir : Dir) (c : Config) (ticket : ℕ) (done : List Put × Reply) : Type 0 where
+  pub number : ℕ
+  pub more : List Put
+  pub appended : FoundToAppend dir c.prefix number more
+  pub taken : List Put
+  pub is : IsTaking dir Tickets ticket taken
+  pub puts : done.0 ≡ taken ++ more
+  pub reply : done.1 ≡ answers.posted number
 
-pub record FoundToAccept (dir : Dir) (c : Config) (ticket : ℕ) (done : List Put × Reply) : Type 0 where
-  pub answer : Appended
-  pub found : FoundToPublish dir c.prefix answer
-  pub accepted : FoundAccepted dir ticket answer done
+abbrev pub FoundToAccept : Dir → Config → ℕ → List Put × Reply → Type 0
+FoundToAccept dir c ticket done = FoundAccepted dir c ticket done ⊎ (IsNumberFile (dir number_name) 99_999_999 × Says answers.full done)
 
 -- A post is rejected: it waits no longer, and goes back by the next entry of the queue.
 pub record FoundToReject (dir : Dir) (ticket : ℕ) (done : List Put × Reply) : Type 0 where

@@ -1,6 +1,6 @@
 -- What posts find in the files that they read, whatever the other files hold: the files that are read are in their grammar, and the answer goes
 -- by what they spell.
-use Rattle.std.specs.Prelude.{◌≡◌, ◌<◌, ◌+◌, ℕ, Bool, true, false, List, length, codes}
+use Rattle.std.specs.Prelude.{◌≡◌, ◌<◌, ◌+◌, ℕ, Bool, true, false, IsTrue, List, Option, Some, None, length, codes}
 use Rattle.ml_base.specs.Address.{key}
 use Rattle.ml_base.specs.Bytes.{Text, is_empty, lower}
 use Rattle.ml_base.specs.Dir.{Dir}
@@ -9,11 +9,10 @@ use Rattle.ml_base.specs.declared.puts.Put.{Put}
 use Rattle.ml_config.specs.declared.configuration.Config.{Config}
 use Rattle.ml_drawn.specs.Answers.{IsDrawing}
 use Rattle.ml_drawn.specs.declared.series.Series.TheVariants.{Tickets}
-use Rattle.ml_filing.specs.Answers.{IsAppended, puts_of}
+use Rattle.ml_filing.specs.Answers.{IsAppended}
 use Rattle.ml_filing.specs.Archive.{IsNumberFile, number_name}
 use Rattle.ml_filing.specs.Subjects.{subject}
-use Rattle.ml_filing.specs.declared.posts.Appended.{Appended}
-use Rattle.ml_filing.specs.declared.posts.Appended.TheVariants.{At, Full}
+use Rattle.ml_filing.specs.declared.posts.Appended.TheVariants.{At}
 use Rattle.ml_filing.specs.declared.posts.Post.{Post}
 use Rattle.ml_header.specs.Fields.{has_field}
 use Rattle.ml_hold.specs.Held.{held_text}
@@ -22,9 +21,11 @@ use Rattle.ml_plain.specs.Answers as answers
 use Rattle.ml_plain.specs.Verdicts.{is_usable, is_command, is_addressed}
 use Rattle.ml_plain.specs.declared.Reply.{Reply}
 use Rattle.ml_acts.specs.Found.{AddsMailToSet, EitherTells, Says, TellsKeys, TellsMember}
-use Rattle.ml_post.specs.Posting.{outcome_of, reply_of}
+use Rattle.ml_post.specs.Posting.{outcome_of}
 use Rattle.ml_post.specs.Outcomes.{Outcome}
 use Rattle.ml_post.specs.Outcomes as fates
+use Rattle.ml_post.specs.declared.verdict_table.Judged.{Judged}
+use Rattle.ml_post.specs.declared.verdict_table.Judged.TheVariants as judged
 use Rattle.ml_post.specs.declared.verdicts.Verdict.{Verdict as Found}
 use Rattle.ml_post.specs.declared.verdicts.Verdict.TheVariants as found
 
@@ -42,6 +43,21 @@ TellsDenied dir c k false = c.flags.k ≡ true → TellsMember dir sets.Deny k f
 abbrev pub TellsStranger : Dir → Config → Text → Bool → Type 0
 TellsStranger dir c k true = (c.flags.u ≡ true) × TellsUser dir k false
 TellsStranger dir c k false = c.flags.u ≡ true → TellsUser dir k true
+
+-- why a post is refused for its text, if it is: it has no subject, its subject is a command, or it isn't addressed to the list
+abbrev pub TellsText : Config → Text → Option Found → Type 0
+TellsText c m (Some found.NoSubject) = is_empty (subject m) ≡ true
+TellsText c m (Some found.CommandSubject) = (is_empty (subject m) ≡ false) × (is_command (lower (subject m)) ≡ true)
+TellsText c m (Some found.NotAddressed) = (is_empty (subject m) ≡ false) × (is_command (lower (subject m)) ≡ false) × (is_addressed c m ≡ false)
+TellsText c m (Some _) = ⊥
+TellsText c m None = (is_empty (subject m) ≡ false) × (is_command (lower (subject m)) ≡ false) × (is_addressed c m ≡ true)
+
+-- why a post is refused for its sender's sake or for its text, if it is
+abbrev pub TellsRefusal : Dir → Config → Text → Text → Option Found → Type 0
+TellsRefusal dir c k m (Some found.Denied) = TellsDenied dir c k true
+TellsRefusal dir c k m (Some found.UsersOnly) = TellsDenied dir c k false × TellsText c m None × TellsStranger dir c k true
+TellsRefusal dir c k m (Some v) = TellsDenied dir c k false × TellsText c m (Some v)
+TellsRefusal dir c k m None = TellsDenied dir c k false × TellsText c m None × TellsStranger dir c k false
 
 -- The verdict on a post, by the files that tell it: on one that its sender may send, on one whose text is taken, on one whose sender isn't
 -- denied, on one that isn't too long, has a sender and didn't come from the list, and on any.
@@ -71,6 +87,11 @@ FoundOfPost dir c sender m found.BounceSender = is_usable sender ≡ false
 FoundOfPost dir c sender m found.Looped = has_field (codes "mailing-list") m ≡ true
 FoundOfPost dir c sender m v = (is_usable sender ≡ true) × FoundOfSender dir c (key sender) m v
 
+-- if a post is posted, this is the number of those before it, and there is room for it
+abbrev pub IsCounted : Bool → Dir → Judged → Type 0
+IsCounted tells dir (judged.Posted who count) = (count < 99_999_999) × (IsTrue tells → IsNumberFile (dir number_name) count)
+IsCounted tells dir _ = Unit {0}
+
 -- A post is held: it got the next ticket, by the counter of tickets; there are keys; and the question goes to exactly the addresses that the moderators'
 -- buckets spell.
 pub record FoundToHold (dir : Dir) (done : List Put × Reply) : Type 0 where
@@ -94,16 +115,11 @@ pub record FoundToAppend (dir : Dir) (prefix : Text) (number : ℕ) (puts : List
   pub appended : IsAppended dir prefix post (At place filed)
   pub sent : AddsMailToSet dir sets.List filed puts
 
-abbrev pub FoundToPublish : Dir → Text → Appended → Type 0
-FoundToPublish dir prefix (At number puts) = FoundToAppend dir prefix number puts
-FoundToPublish dir prefix Full = IsNumberFile (dir number_name) 99_999_999
-
--- a post is taken, or the archive is full
+-- A post is taken.
 pub record FoundToTake (dir : Dir) (prefix : Text) (done : List Put × Reply) : Type 0 where
-  pub answer : Appended
-  pub found : FoundToPublish dir prefix answer
-  pub puts : done.0 ≡ puts_of answer
-  pub reply : done.1 ≡ reply_of answer
+  pub number : ℕ
+  pub appended : FoundToAppend dir prefix number done.0
+  pub reply : done.1 ≡ answers.posted number
 
 -- what follows a verdict, by the files that tell it
 abbrev pub FoundToFollow : Dir → Config → Outcome → List Put × Reply → Type 0

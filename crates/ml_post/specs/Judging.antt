@@ -1,5 +1,5 @@
 -- The verdict on a post, and the files that tell it.
-use Rattle.std.specs.Prelude.{Bool, true, not, ◌&&◌, ◌||◌, [], ◌∷◌}
+use Rattle.std.specs.Prelude.{Bool, true, false, not, ◌&&◌, ◌||◌, [], ◌∷◌}
 use Rattle.ml_base.specs.Bytes.{Text, lower, is_empty}
 use Rattle.ml_base.specs.Dir.{same_name}
 use Rattle.ml_base.specs.declared.names.Name.{Name}
@@ -33,7 +33,7 @@ row_of found.Posted = Posted
 abbrev pub verdict_of : Judged → Found
 verdict_of (judged.Refused v) = v
 verdict_of (judged.Held who) = found.Held
-verdict_of (judged.Posted who) = found.Posted
+verdict_of (judged.Posted who count) = found.Posted
 
 -- the verdict on a post for which no earlier row holds: first by the archive and moderation, then by the sender as a user, by the text, and by
 -- the sender in the deny list
@@ -61,6 +61,13 @@ may_be_found moderated found.Held = moderated
 may_be_found moderated found.Full = not moderated
 may_be_found moderated found.Posted = not moderated
 may_be_found moderated _ = true
+
+-- whether a verdict refuses a post whatever room there is
+abbrev pub is_refusal : Found → Bool
+is_refusal found.Held = false
+is_refusal found.Full = false
+is_refusal found.Posted = false
+is_refusal _ = true
 
 -- the files that a verdict may read: the sender's in the deny list if there is one, his in the users' sets if only users may post, and the
 -- number of posts if posts don't wait for the moderators

@@ -2,10 +2,7 @@
 use Rattle.std.specs.Prelude.{◌≡◌, ℕ, Bool, not, ◌&&◌, ◌||◌, Option, Some}
 use Rattle.ml_base.specs.Bytes.{Text}
 use Rattle.ml_base.specs.declared.names.Name.{Name}
-use Rattle.ml_filing.specs.declared.posts.Appended.{Appended}
-use Rattle.ml_filing.specs.declared.posts.Appended.TheVariants.{At, Full}
 use Rattle.ml_config.specs.declared.configuration.Config.{Config}
-use Rattle.ml_plain.specs.declared.Reply.{Reply}
 use Rattle.ml_plain.specs.Answers as answers
 use Rattle.ml_post.specs.Outcomes.{Outcome}
 use Rattle.ml_post.specs.Outcomes as fates
@@ -49,12 +46,7 @@ code_of found.Posted = (answers.posted 0).code
 abbrev pub TellsSender : Option Text → Judged → Type 0
 TellsSender sender (judged.Refused v) = outcome_of v ≡ fates.Refused (answers.plain (code_of v))
 TellsSender sender (judged.Held who) = sender ≡ Some who
-TellsSender sender (judged.Posted who) = sender ≡ Some who
-
--- the reply to a message that was to be posted
-abbrev pub reply_of : Appended → Reply
-reply_of (At number txn) = answers.posted number
-reply_of Full = answers.full
+TellsSender sender (judged.Posted who count) = sender ≡ Some who
 
 -- the files that a post may read: those of its verdict, and if posts wait for the moderators those that holding it reads,
 -- otherwise those that taking it reads

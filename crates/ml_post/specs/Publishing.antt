@@ -1,25 +1,23 @@
 -- Posts that go into the archive and to the set list.
-use Rattle.std.specs.Prelude.{◌≡◌, ◌+◌, ℕ, Bool, true, false, not, ◌||◌, length}
+use Rattle.std.specs.Prelude.{◌≡◌, ◌+◌, ℕ, Bool, false, List, not, ◌||◌, length}
 use Rattle.ml_base.specs.Bytes.{Text}
 use Rattle.ml_base.specs.Dir.{Dir, same_name, with_puts}
 use Rattle.ml_base.specs.declared.names.Name.{Name}
 use Rattle.ml_base.specs.declared.names.Set.TheVariants as sets
+use Rattle.ml_base.specs.declared.puts.Put.{Put}
 use Rattle.ml_filing.specs.Archive.{number_name}
 use Rattle.ml_filing.specs.Subjects.{subject, subject_key}
-use Rattle.ml_filing.specs.declared.posts.Appended.{Appended}
-use Rattle.ml_filing.specs.declared.posts.Appended.TheVariants.{At, Full}
 use Rattle.ml_config.specs.declared.configuration.Config.{Config}
 use Rattle.ml_plain.specs.Directory.{IsList, held_kinds}
 use Rattle.ml_plain.specs.Plain.{Plain, is_archive_full}
 use Rattle.ml_plain.specs.Posting.{sent_text, with_text}
 use Rattle.ml_acts.specs.Doing.{is_index, is_mailed_by, is_thread_file}
 
--- a post that is taken: if the archive has room, it gets the next number, and with these puts laid over the files they stand for the
+-- a post that is taken: the archive has room, the post gets the next number, and with these puts laid over the files they stand for the
 -- list with it
-abbrev pub Publishes : Dir → ℕ → Text → Text → Plain → Appended → Type 0
-Publishes dir now sender m p (At number txn) =
+abbrev pub Publishes : Dir → ℕ → Text → Text → Plain → ℕ → List Put → Type 0
+Publishes dir now sender m p number txn =
     (is_archive_full p ≡ false) × (number ≡ length p.posts + 1) × IsList (with_puts dir txn) (with_text now sender (sent_text p.config m) number p)
-Publishes dir now sender m p Full = is_archive_full p ≡ true
 
 -- all files except the held posts
 abbrev pub is_beside_held : Name → Bool

@@ -1,12 +1,12 @@
 // A message that is mailed to the list's own address.
-ghost use Rattle.std.specs.Prelude.{◌≡◌, true, false, IsTrue, IfErr, IfOk};
-ghost use Rattle.ml_filing.specs.Answers.{puts_of};
+ghost use Rattle.std.specs.Prelude.{◌≡◌, ◌<◌, true, IsTrue, IfErr, IfOk};
 ghost use Rattle.ml_base.specs.Dir.{Dir};
 ghost use Rattle.ml_base.specs.PartErrors.{OnDamaged};
 ghost use Rattle.ml_base.specs.Ranges.{IsMoment};
 ghost use Rattle.ml_config.specs.Configuration.{IsConfig};
+ghost use Rattle.ml_filing.specs.Archive.{IsNumberFile, number_name};
 ghost use Rattle.ml_plain.specs.Directory.{IsList};
-ghost use Rattle.ml_plain.specs.Plain.{Plain, is_archive_full};
+ghost use Rattle.ml_plain.specs.Plain.{Plain};
 ghost use Rattle.ml_plain.specs.Posting as spec;
 ghost use Rattle.ml_acts.specs.Acting.{AnswersPost as AnswersAct};
 ghost use Rattle.ml_acts.specs.Asked.{IsDamagedOf, Next};
@@ -14,7 +14,7 @@ ghost use Rattle.ml_acts.specs.Configured.{with_config};
 ghost use Rattle.ml_acts.specs.Doing.{DoesList, HasIds, HasRoom};
 ghost use Rattle.ml_post.specs.Alike.{AlikeForPost, AlikeToPublish};
 ghost use Rattle.ml_post.specs.Found.{FoundByPost, FoundToTake};
-ghost use Rattle.ml_post.specs.Posting.{code_of, is_posted_by, reply_of};
+ghost use Rattle.ml_post.specs.Posting.{code_of, is_posted_by};
 ghost use Rattle.ml_post.specs.Publishing.{is_published_by, sent_key};
 
 use crate::Verdict;
@@ -24,7 +24,6 @@ use crate::verdict_table::{Judged, judge_with_config};
 use ml_acts::{Configured, MailMemo, Moment};
 use ml_base::{Address, Files, PartError, Txn};
 use ml_config::Config;
-use ml_filing::Appended;
 use ml_header::Message;
 use ml_plain::Reply;
 use std::alloc::Global;
@@ -108,7 +107,9 @@ fn post_with_config<F: Files>(
     match found {
         Judged::Refused(verdict) => Ok((Txn::new(alloc), Reply::plain(code_of(verdict)))),
         Judged::Held(who) => hold_post(alloc, files, config, now, who, message),
-        Judged::Posted(who) => post_message(alloc, files, memo, config, now, &who, message),
+        Judged::Posted(who, count) => {
+            post_message(alloc, files, memo, config, now, &who, message, count)
+        }
     }
 }
 
@@ -131,7 +132,7 @@ fn code_of(found: Verdict) -> u8
     }
 }
 
-// Posts a message of a sender.
+// Posts a message of a sender after so many posts.
 fn post_message<F: Files>(
     alloc: Global,
     files: &mut F,
@@ -140,24 +141,16 @@ fn post_message<F: Files>(
     now: Moment,
     sender: &Address,
     message: &[u8],
+    count: u64,
 ) -> Result<(Txn, Reply), PartError>
+    requires below { count < 99_999_999 }
+    requires count { IsTrue F.tells → IsNumberFile (F.map files.now number_name) count }
     requires room { IsTrue F.tells → HasIds (F.map files.now) }
-    ensures apart { IsTrue F.tells → IfOk result (λ done. (dir : Dir) (p : Plain) → AlikeToPublish config.now message.now (F.map files.old) dir → IsList dir p → p.config ≡ config.now → is_archive_full p ≡ false → DoesList dir done (spec.posted_now now.seconds sender.now message.now p)) }
+    ensures apart { IsTrue F.tells → IfOk result (λ done. (dir : Dir) (p : Plain) → AlikeToPublish config.now message.now (F.map files.old) dir → IsList dir p → p.config ≡ config.now → DoesList dir done (spec.posted_now now.seconds sender.now message.now p)) }
     ensures spared { IsTrue F.tells → (dir : Dir) (p : Plain) → AlikeToPublish config.now message.now (F.map files.old) dir → IsList dir p → IfErr result (λ e. OnDamaged e (λ _. ⊥)) }
     ensures found { IsTrue F.tells → IfOk result (FoundToTake (F.map files.old) config.now.prefix) }
     ensures act { AnswersAct ⟦<F as Files>⟧ (λ name. is_published_by name ≡ true) (IsDamagedOf (F.map files.old) (Next (sent_key config.now message.now))) files.old files.new result }
 {
-    let answer = publish(alloc, files, memo, config, now, sender, message)?;
-    Ok(done_by(alloc, answer))
-}
-
-// The puts and the reply of a message that was to be posted.
-fn done_by(alloc: Global, answer: Appended) -> (Txn, Reply)
-    ensures puts { result.0 ≡ puts_of answer }
-    ensures reply { result.1 ≡ reply_of answer }
-{
-    match answer {
-        Appended::At(number, txn) => (txn, Reply::posted(number)),
-        Appended::Full => (Txn::new(alloc), Reply::plain(Reply::FULL)),
-    }
+    let txn = publish(alloc, files, memo, config, now, sender, message, count)?;
+    Ok((txn, Reply::posted(count + 1)))
 }

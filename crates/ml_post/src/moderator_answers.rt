@@ -1,11 +1,12 @@
 // What a moderator answers about a post that waits.
-ghost use Rattle.std.specs.Prelude.{◌≡◌, true, false, Some, IsTrue, IfErr, IfOk, codes};
+ghost use Rattle.std.specs.Prelude.{◌≡◌, ◌<◌, true, false, Some, IsTrue, IfErr, IfOk, codes};
 ghost use Rattle.std.specs.Fmt.{decimal};
 ghost use Rattle.ml_base.specs.Dir.{Dir, are_files, touches_only, with_puts};
 ghost use Rattle.ml_base.specs.PartErrors.{OnDamaged};
 ghost use Rattle.ml_base.specs.Ranges.{IsMoment, is_drawn};
 ghost use Rattle.ml_base.specs.ReadFiles.{IsReading, NamesDamaged};
 ghost use Rattle.ml_base.specs.declared.names.Set.TheVariants as sets;
+ghost use Rattle.ml_filing.specs.Archive.{IsNumberFile, number_name};
 ghost use Rattle.ml_hold.specs.Held.{held_post, without_ticket};
 ghost use Rattle.ml_hold.specs.declared.posts.Held.{Held as TheHeld};
 ghost use Rattle.ml_hold.specs.Answers as waiting;
@@ -30,9 +31,9 @@ ghost use Rattle.ml_post.specs.Answering.{IsDamagedOfHeld, IsDamagedOfTicket, ac
 use crate::held_posts::list_keys;
 use crate::publication::publish;
 use ml_acts::{Configured, MailMemo, Moment, is_cookie, with_mail};
-use ml_base::{Bytes, Files, PartError, Set, Txn, write_number};
+use ml_base::{Bytes, Files, LAST_POST_NUMBER, PartError, Set, Txn, write_number};
 use ml_config::{Config, Keys};
-use ml_filing::Appended;
+use ml_filing::count;
 use ml_hold::{Held, look, release};
 use ml_plain::Reply;
 use ml_reply::Mail;
@@ -228,25 +229,47 @@ fn accept_held<F: Files>(
     ensures found { IsTrue F.tells → IfOk result (FoundToAccept (F.map files.old) config.now ticket) }
     ensures act { AnswersAct ⟦<F as Files>⟧ (λ name. is_accepted_by ticket name ≡ true) (IsDamagedOf (F.map files.old) (Next (sent_key config.now held.now.message))) files.old files.new result }
 {
+    let count = count(alloc, files)?;
+    if count == LAST_POST_NUMBER {
+        return Ok((Txn::new(alloc), Reply::plain(Reply::FULL)));
+    }
+    accept_after(alloc, files, config, now, ticket, held, count)
+}
+
+// The post is posted after so many others, and waits no longer.
+fn accept_after<F: Files>(
+    alloc: Global,
+    files: &mut F,
+    config: &Config,
+    now: Moment,
+    ticket: u64,
+    held: &Held,
+    count: u64,
+) -> Result<(Txn, Reply), PartError>
+    requires drawn { IsTrue (is_drawn ticket) }
+    requires below { count < 99_999_999 }
+    requires count { IsTrue F.tells → IsNumberFile (F.map files.now number_name) count }
+    requires room { IsTrue F.tells → HasIds (F.map files.now) }
+    ensures apart { IsTrue F.tells → IfOk result (λ done. (dir : Dir) (p : Plain) → AlikeToFollow config.now ticket held.now.message true (F.map files.old) dir → IsList dir p → p.config ≡ config.now → held_post ticket p.held ≡ Some held.now → DoesList dir done (spec.answered now.seconds ticket held.now p true)) }
+    ensures spared { IsTrue F.tells → (dir : Dir) (p : Plain) → AlikeToFollow config.now ticket held.now.message true (F.map files.old) dir → IsList dir p → IfErr result (λ e. OnDamaged e (λ _. ⊥)) }
+    ensures found { IsTrue F.tells → IfOk result (FoundToAccept (F.map files.old) config.now ticket) }
+    ensures act { AnswersAct ⟦<F as Files>⟧ (λ name. is_accepted_by ticket name ≡ true) (IsDamagedOf (F.map files.old) (Next (sent_key config.now held.now.message))) files.old files.new result }
+{
     let message = held.message.as_slice();
-    let sender = &held.sender;
-    let answer = publish(
+    let mut memo = MailMemo::new();
+    let more = publish(
         alloc,
         files,
-        &mut MailMemo::new(),
+        &mut memo,
         config,
         now,
-        sender,
+        &held.sender,
         message,
+        count,
     )?;
-    match answer {
-        Appended::Full => Ok((Txn::new(alloc), Reply::plain(Reply::FULL))),
-        Appended::At(number, more) => {
-            let mut txn = take_held(alloc, files, ticket)?;
-            txn.join(more)?;
-            Ok((txn, Reply::posted(number)))
-        }
-    }
+    let mut txn = take_held(alloc, files, ticket)?;
+    txn.join(more)?;
+    Ok((txn, Reply::posted(count + 1)))
 }
 
 // The post waits no longer, and goes back to its sender.

@@ -1,10 +1,10 @@
 // Publishing a post: it goes last into the archive, and last into the queue to the set list.
-ghost use Rattle.std.specs.Prelude.{◌≡◌, ◌<◌, ◌≤◌, true, IsTrue, IfOk, IfErr, length};
+ghost use Rattle.std.specs.Prelude.{◌≡◌, ◌<◌, ◌+◌, true, IsTrue, IfOk, IfErr, length};
 ghost use Rattle.ml_base.specs.Dir.{Dir, are_files, touches_only, with_puts};
 ghost use Rattle.ml_base.specs.PartErrors.{OnDamaged};
 ghost use Rattle.ml_base.specs.ReadFiles.{IsReading, NamesDamaged};
 ghost use Rattle.ml_base.specs.declared.names.Set.TheVariants as sets;
-ghost use Rattle.ml_filing.specs.Answers.{number_of, puts_of};
+ghost use Rattle.ml_filing.specs.Archive.{IsNumberFile, number_name};
 ghost use Rattle.ml_filing.specs.Threads.{is_of_archive};
 ghost use Rattle.ml_plain.specs.Directory.{IsList};
 ghost use Rattle.ml_plain.specs.Mailing as mailing;
@@ -15,18 +15,18 @@ ghost use Rattle.ml_acts.specs.Damaged.{IsDamaged};
 ghost use Rattle.ml_acts.specs.Doing.{Alike, HasIds, is_mailed_by, is_of_posting, is_of_queue};
 ghost use Rattle.ml_acts.specs.Found.{AddsMailToSet, QueuesToSet};
 ghost use Rattle.ml_post.specs.Alike.{AlikeToPublish};
-ghost use Rattle.ml_post.specs.Found.{FoundToPublish};
+ghost use Rattle.ml_post.specs.Found.{FoundToAppend};
 ghost use Rattle.ml_post.specs.Publishing.{Publishes, is_published_by, sent_key};
 
 use crate::outgoing_text::sent_text;
 use ml_acts::{MailMemo, Moment, post_path, send_to_list};
-use ml_base::{Address, Bytes, Files, LAST_POST_NUMBER, LONGEST_POST, PartError, Txn};
+use ml_base::{Address, Bytes, Files, LONGEST_POST, PartError, Txn};
 use ml_config::Config;
-use ml_filing::{Appended, append_next, count};
+use ml_filing::append_next;
 use ml_header::Message;
 use std::alloc::{AllocError, Global};
 
-// Puts a sender's message into the archive under the next number, and into the queue to the set list as it stands.
+// Puts a sender's message into the archive after so many posts, and into the queue to the set list as it stands.
 pub(crate) fn publish<F: Files>(
     alloc: Global,
     files: &mut F,
@@ -35,21 +35,19 @@ pub(crate) fn publish<F: Files>(
     now: Moment,
     sender: &Address,
     message: &[u8],
-) -> Result<Appended, PartError>
+    count: u64,
+) -> Result<Txn, PartError>
+    requires below { count < 99_999_999 }
+    requires count { IsTrue F.tells → IsNumberFile (F.map files.now number_name) count }
     requires room { IsTrue F.tells → HasIds (F.map files.now) }
-    ensures apart { IsTrue F.tells → IfOk result (λ answer. (dir : Dir) (p : Plain) → AlikeToPublish config.now message.now (F.map files.old) dir → IsList dir p → p.config ≡ config.now → Publishes dir now.seconds sender.now message.now p answer) }
+    ensures apart { IsTrue F.tells → IfOk result (λ txn. (dir : Dir) (p : Plain) → AlikeToPublish config.now message.now (F.map files.old) dir → IsList dir p → p.config ≡ config.now → Publishes dir now.seconds sender.now message.now p (count + 1) txn) }
     ensures spared { IsTrue F.tells → (dir : Dir) (p : Plain) → AlikeToPublish config.now message.now (F.map files.old) dir → IsList dir p → IfErr result (λ e. OnDamaged e (λ _. ⊥)) }
-    ensures own { IfOk result (λ answer. touches_only is_of_posting (puts_of answer) ≡ true) }
-    ensures files { IfOk result (λ answer. IsTrue (are_files (puts_of answer))) }
-    ensures number { IfOk result (λ answer. number_of answer ≤ 99_999_999) }
+    ensures own { IfOk result (λ txn. touches_only is_of_posting txn ≡ true) }
+    ensures files { IfOk result (λ txn. IsTrue (are_files txn)) }
     ensures names { NamesDamaged ⟦<F as Files>⟧ (λ name. is_published_by name ≡ true) (IsDamagedOf (F.map files.old) (Next (sent_key config.now message.now))) result }
-    ensures found { IsTrue F.tells → IfOk result (FoundToPublish (F.map files.old) config.now.prefix) }
+    ensures found { IsTrue F.tells → IfOk result (FoundToAppend (F.map files.old) config.now.prefix (count + 1)) }
     ensures reads { IsReading ⟦<F as Files>⟧ files.old files.new result }
 {
-    let count = count(alloc, files)?;
-    if count == LAST_POST_NUMBER {
-        return Ok(Appended::Full);
-    }
     let text = text_to_send(alloc, config, message)?;
     let prefix = config.prefix.as_slice();
     let filed = append_next(
@@ -61,8 +59,7 @@ pub(crate) fn publish<F: Files>(
         now.seconds,
         text.as_slice(),
     )?;
-    let txn = with_mail(alloc, files, memo, config, count + 1, text, filed)?;
-    Ok(Appended::At(count + 1, txn))
+    with_mail(alloc, files, memo, config, count + 1, text, filed)
 }
 
 // The puts of a post that gets a number, and after them those by which its text goes to the set list.

@@ -1,5 +1,5 @@
 // The verdict on a post: the first row of the table that holds.
-ghost use Rattle.std.specs.Prelude.{◌≡◌, ◌≢◌, ◌≤◌, ◌&&◌, ◌||◌, true, false, not, length, IsTrue, IfOk, IfErr, Some};
+ghost use Rattle.std.specs.Prelude.{◌≡◌, ◌≢◌, ◌≤◌, ◌&&◌, ◌||◌, true, false, not, length, IsTrue, IfOk, IfErr, IfSome, Some};
 ghost use Rattle.ml_base.specs.Address.{address_of, key};
 ghost use Rattle.ml_base.specs.Bytes.{lower};
 ghost use Rattle.ml_base.specs.PartErrors.{OnDamaged};
@@ -15,9 +15,8 @@ ghost use Rattle.ml_acts.specs.Asked.{Count, IsDamagedOf};
 ghost use Rattle.ml_acts.specs.Configured.{with_config};
 ghost use Rattle.ml_acts.specs.Doing.{Alike, is_bucket_of};
 ghost use Rattle.ml_acts.specs.Found.{EitherTells, TellsMember};
-ghost use Rattle.ml_post.specs.Found.{FoundOfPost, FoundOfRoom, FoundOfSender, FoundOfText, FoundOfUser, TellsDenied, TellsStranger, TellsUser};
-ghost use Rattle.ml_post.specs.Judging.{row_of, verdict_of, is_judged_by, is_of_user, may_be_found};
-ghost use Rattle.ml_post.specs.Judging as rows;
+ghost use Rattle.ml_post.specs.Found.{FoundOfPost, FoundOfRoom, IsCounted, TellsDenied, TellsRefusal, TellsStranger, TellsText, TellsUser};
+ghost use Rattle.ml_post.specs.Judging.{row_of, verdict_of, is_judged_by, is_of_user, is_refusal, may_be_found};
 ghost use Rattle.ml_post.specs.Posting.{TellsSender};
 ghost use Rattle.ml_post.specs.declared.verdicts.Verdict.TheVariants.{TooBig};
 
@@ -29,14 +28,14 @@ use ml_config::Config;
 use ml_filing::{count, subject};
 use ml_header::Message;
 use ml_subs::member;
-use std::alloc::Global;
+use std::alloc::{AllocError, Global};
 
-// What is found of a post: the verdict that refuses it, or the address of its sender.
+// What is found of a post: the verdict that refuses it, or the address of its sender, and how many posts come before it if it is posted.
 #[derive(Drop)]
 pub(crate) enum Judged {
     Refused(Verdict),
     Held(Address),
-    Posted(Address),
+    Posted(Address, u64),
 }
 
 impl Judged {
@@ -47,7 +46,7 @@ impl Judged {
         match self {
             Judged::Refused(found) => *found,
             Judged::Held(_) => Verdict::Held,
-            Judged::Posted(_) => Verdict::Posted,
+            Judged::Posted(_, _) => Verdict::Posted,
         }
     }
 }
@@ -93,6 +92,7 @@ pub(crate) fn judge_with_config<F: Files>(
     ensures names { NamesDamaged ⟦<F as Files>⟧ (λ name. is_judged_by config.now sender.now name ≡ true) (IsDamagedOf (F.map files.old) Count) result }
     ensures found { IsTrue F.tells → IfOk result (λ found. FoundOfPost (F.map files.old) config.now sender.now message.now (verdict_of found)) }
     ensures sender { IfOk result (TellsSender (address_of sender.now)) }
+    ensures counted { IfOk result (IsCounted F.tells (F.map files.old)) }
     ensures reads { IsReading ⟦<F as Files>⟧ files.old files.new result }
 {
     if message.bytes().len() as u64 > config.max {
@@ -104,48 +104,35 @@ pub(crate) fn judge_with_config<F: Files>(
     if message.field(b"mailing-list").is_some() {
         return Ok(Judged::Refused(Verdict::Looped));
     }
-    let found = of_sender(alloc, files, config, &who, message)?;
-    Ok(with_sender(found, who))
-}
-
-// A verdict on a post of a sender, with his address if the post is taken.
-fn with_sender(found: Verdict, who: Address) -> Judged
-    ensures verdict { verdict_of result ≡ found }
-    ensures sender { TellsSender (Some who) result }
-{
-    match found {
-        Verdict::Held => Judged::Held(who),
-        Verdict::Posted => Judged::Posted(who),
-        Verdict::TooBig
-        | Verdict::BounceSender
-        | Verdict::Looped
-        | Verdict::Denied
-        | Verdict::NoSubject
-        | Verdict::CommandSubject
-        | Verdict::NotAddressed
-        | Verdict::UsersOnly
-        | Verdict::Full => Judged::Refused(found),
+    if let Some(found) = refusal(alloc, files, config, &who, message)? {
+        return Ok(Judged::Refused(found));
     }
+    of_room(alloc, files, config, who)
 }
 
-// The verdict on a post that isn't too long, has a sender and didn't come from the list.
-fn of_sender<F: Files>(
+// The verdict by which a post of a sender is refused, for his sake or for its text, or None.
+fn refusal<F: Files>(
     alloc: Global,
     files: &mut F,
     config: &Config,
     who: &Address,
     message: &Message<'_>,
-) -> Result<Verdict, PartError>
-    ensures apart { IsTrue F.tells → IfOk result (λ found. (dir : Dir) (p : Plain) → Alike (is_judged_by config.now who.now) (F.map files.old) dir → IsList dir p → p.config ≡ config.now → row_of found ≡ rows.of_sender p who.now message.now) }
-    ensures moderated { IfOk result (λ found. may_be_found config.now.flags.m found ≡ true) }
+) -> Result<Option<Verdict>, PartError>
+    ensures refuses { IfOk result (λ found. IfSome found (λ v. is_refusal v ≡ true)) }
     ensures names { NamesDamaged ⟦<F as Files>⟧ (λ name. is_judged_by config.now who.now name ≡ true) (IsDamagedOf (F.map files.old) Count) result }
-    ensures found { IsTrue F.tells → IfOk result (FoundOfSender (F.map files.old) config.now (key who.now) message.now) }
+    ensures found { IsTrue F.tells → IfOk result (TellsRefusal (F.map files.old) config.now (key who.now) message.now) }
     ensures reads { IsReading ⟦<F as Files>⟧ files.old files.new result }
 {
     if is_denied(alloc, files, config, who)? {
-        return Ok(Verdict::Denied);
+        return Ok(Some(Verdict::Denied));
     }
-    of_text(alloc, files, config, who, message)
+    if let Some(found) = text_refusal(alloc, config, message)? {
+        return Ok(Some(found));
+    }
+    if is_stranger(alloc, files, config, who)? {
+        return Ok(Some(Verdict::UsersOnly));
+    }
+    Ok(None)
 }
 
 // Whether there is a deny list, and an address is on it.
@@ -165,31 +152,25 @@ fn is_denied<F: Files>(
     is_member(alloc, files, Set::Deny, who)
 }
 
-// The verdict on a post whose sender isn't denied.
-fn of_text<F: Files>(
+// The verdict by which a post is refused for its text, or None.
+fn text_refusal(
     alloc: Global,
-    files: &mut F,
     config: &Config,
-    who: &Address,
     message: &Message<'_>,
-) -> Result<Verdict, PartError>
-    ensures apart { IsTrue F.tells → IfOk result (λ found. (dir : Dir) (p : Plain) → Alike (is_judged_by config.now who.now) (F.map files.old) dir → IsList dir p → p.config ≡ config.now → row_of found ≡ rows.of_text p who.now message.now) }
-    ensures moderated { IfOk result (λ found. may_be_found config.now.flags.m found ≡ true) }
-    ensures names { NamesDamaged ⟦<F as Files>⟧ (λ name. is_judged_by config.now who.now name ≡ true) (IsDamagedOf (F.map files.old) Count) result }
-    ensures found { IsTrue F.tells → IfOk result (FoundOfText (F.map files.old) config.now (key who.now) message.now) }
-    ensures reads { IsReading ⟦<F as Files>⟧ files.old files.new result }
+) -> Result<Option<Verdict>, AllocError>
+    ensures { IfOk result (TellsText config.now message.now) }
 {
     let subject = subject(alloc, message)?;
     if subject.is_empty() {
-        return Ok(Verdict::NoSubject);
+        return Ok(Some(Verdict::NoSubject));
     }
     if is_command(subject.as_slice()) {
-        return Ok(Verdict::CommandSubject);
+        return Ok(Some(Verdict::CommandSubject));
     }
     if !is_addressed(alloc, config, message)? {
-        return Ok(Verdict::NotAddressed);
+        return Ok(Some(Verdict::NotAddressed));
     }
-    of_user(alloc, files, config, who)
+    Ok(None)
 }
 
 // Whether a subject is a command, in any case of letters.
@@ -201,24 +182,6 @@ fn is_command(subject: &[u8]) -> bool
         || subject.eq_ignore_ascii_case(b"help")
         || subject.eq_ignore_ascii_case(b"remove")
         || subject.eq_ignore_ascii_case(b"signoff")
-}
-
-// The verdict on a post whose text is taken.
-fn of_user<F: Files>(
-    alloc: Global,
-    files: &mut F,
-    config: &Config,
-    who: &Address,
-) -> Result<Verdict, PartError>
-    ensures moderated { IfOk result (λ found. may_be_found config.now.flags.m found ≡ true) }
-    ensures names { NamesDamaged ⟦<F as Files>⟧ (λ name. is_judged_by config.now who.now name ≡ true) (IsDamagedOf (F.map files.old) Count) result }
-    ensures found { IsTrue F.tells → IfOk result (FoundOfUser (F.map files.old) config.now (key who.now)) }
-    ensures reads { IsReading ⟦<F as Files>⟧ files.old files.new result }
-{
-    if is_stranger(alloc, files, config, who)? {
-        return Ok(Verdict::UsersOnly);
-    }
-    of_room(alloc, files, config)
 }
 
 // Whether only users may post, and an address is no user's.
@@ -283,18 +246,26 @@ fn is_member<F: Files>(
     member(alloc, files, set, who)
 }
 
-// The verdict on a post that its sender may send: whether it waits, and whether there is room for it.
-fn of_room<F: Files>(alloc: Global, files: &mut F, config: &Config) -> Result<Verdict, PartError>
-    ensures moderated { IfOk result (λ found. may_be_found config.now.flags.m found ≡ true) }
+// What is found of a post that its sender may send: whether it waits, and whether there is room for it.
+fn of_room<F: Files>(
+    alloc: Global,
+    files: &mut F,
+    config: &Config,
+    who: Address,
+) -> Result<Judged, PartError>
+    ensures moderated { IfOk result (λ found. may_be_found config.now.flags.m (verdict_of found) ≡ true) }
     ensures names { NamesDamaged ⟦<F as Files>⟧ (λ name. (not config.now.flags.m && same_name name number_name) ≡ true) (IsDamagedOf (F.map files.old) Count) result }
-    ensures found { IsTrue F.tells → IfOk result (FoundOfRoom (F.map files.old) config.now) }
+    ensures found { IsTrue F.tells → IfOk result (λ found. FoundOfRoom (F.map files.old) config.now (verdict_of found)) }
+    ensures sender { IfOk result (TellsSender (Some who)) }
+    ensures counted { IfOk result (IsCounted F.tells (F.map files.old)) }
     ensures reads { IsReading ⟦<F as Files>⟧ files.old files.new result }
 {
     if config.flags.m {
-        return Ok(Verdict::Held);
+        return Ok(Judged::Held(who));
     }
-    if count(alloc, files)? >= LAST_POST_NUMBER {
-        return Ok(Verdict::Full);
+    let count = count(alloc, files)?;
+    if count >= LAST_POST_NUMBER {
+        return Ok(Judged::Refused(Verdict::Full));
     }
-    Ok(Verdict::Posted)
+    Ok(Judged::Posted(who, count))
 }

@@ -61,7 +61,7 @@ put subscribers/] {a-b} | put ids 1:0\n | run post a@b => 0 damaged 18 0 | same
 put subscribers/] {a-b} | put archive/0/index x | run post a@b => 0 damaged 10 0 | same
 put subscribers/] {a-b} | put archive/threads/231 x | run post a@b => 0 damaged 20 231 | same
 put subscribers/] {a-b} | put subscribers/L Tc@d | run post a@b => 0 damaged 3 12 | same
-# Two reads of the number of posts, an index, a file of threads, 53 files of the set, and the next id.
-turns 1 58 | put subscribers/] {a-b} | fail | run post a@b => 0 a read failed | same
-put subscribers/] {a-b} | fail 59 | run post a@b => 0 1 1
+# The number of posts, an index, a file of threads, 53 files of the set, and the next id.
+turns 1 57 | put subscribers/] {a-b} | fail | run post a@b => 0 a read failed | same
+put subscribers/] {a-b} | fail 58 | run post a@b => 0 1 1
 "#;

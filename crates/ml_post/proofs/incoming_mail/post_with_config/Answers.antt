@@ -16,7 +16,8 @@ use Rattle.ml_acts.proofs.Asked.{asked_as, count_next, named_as}
 use Rattle.ml_acts.proofs.Damages.{ok_then}
 use Rattle.ml_acts.proofs.Found.{found_then}
 use Rattle.ml_acts.proofs.OfActs.{act_after}
-use Rattle.ml_post.specs.Found.{FoundByPost, FoundOfPost, FoundToFollow, FoundToHold, FoundToTake}
+use Rattle.ml_filing.specs.Archive.{IsNumberFile, number_name}
+use Rattle.ml_post.specs.Found.{FoundByPost, FoundOfPost, FoundToFollow, FoundToHold, FoundToTake, IsCounted}
 use Rattle.ml_post.specs.Holding.{is_held_by}
 use Rattle.ml_post.specs.Judging.{is_judged_by, may_be_found, row_of, verdict_of}
 use Rattle.ml_post.specs.Outcomes.{Outcome}
@@ -169,3 +170,11 @@ returns-in-Posted-clause-spared g c told dir p alike is =
     let free : not config.flags.m ≡ true = subst (λ (j : Judged). may_be_found config.flags.m (verdict_of j) ≡ true) c.in-Posted.is c.in_ok-found.ensures.moderated in
     let kept = g.met.F.Files.kept_map c.args.files.now c.judge_with_config.new.files told c.judge_with_config.ensures.reads.kept in
     c.post_message.ensures.spared told dir p (publish_kept config m old (g.F.Files.map c.judge_with_config.new.files) dir kept (publish_alike config c.args.sender.now m old dir alike free)) is
+
+pub post_message-requires-clause-below : goal.post_message-requires-clause-below
+post_message-requires-clause-below g c = (subst (IsCounted g.F.Files.tells (g.F.Files.map c.args.files.now)) c.in-Posted.is c.in_ok-found.ensures.counted).0
+
+pub post_message-requires-clause-count : goal.post_message-requires-clause-count
+post_message-requires-clause-count g c told =
+    let kept = g.met.F.Files.kept_map c.args.files.now c.judge_with_config.new.files told c.judge_with_config.ensures.reads.kept in
+    subst (λ (d : Dir). IsNumberFile (d number_name) c.in-Posted.count) (sym kept) ((subst (IsCounted g.F.Files.tells (g.F.Files.map c.args.files.now)) c.in-Posted.is c.in_ok-found.ensures.counted).1 told)

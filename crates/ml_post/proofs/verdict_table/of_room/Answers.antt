@@ -16,12 +16,15 @@ returns-in_err-count-clause-names g c =
     c.in_err-count.ensures.names in
     search rules
 
-pub returns-then-branch-ge-LAST_POST_NUMBER-clause-found : goal.returns-then-branch-ge-LAST_POST_NUMBER-clause-found
-returns-then-branch-ge-LAST_POST_NUMBER-clause-found g c told =
+pub returns-then-count-ge-LAST_POST_NUMBER-clause-found : goal.returns-then-count-ge-LAST_POST_NUMBER-clause-found
+returns-then-count-ge-LAST_POST_NUMBER-clause-found g c told =
     let wait : c.args.config.now.flags.m ≡ false = search rules in
-    (wait, full_by (g.F.Files.map c.args.files.now) c.in_ok-count.field-0 (c.in_ok-count.ensures.read told) c.if-branch-ge-LAST_POST_NUMBER.true)
+    (wait, full_by (g.F.Files.map c.args.files.now) c.in_ok-count.count (c.in_ok-count.ensures.read told) c.if-count-ge-LAST_POST_NUMBER.true)
 
 pub returns-clause-found : goal.returns-clause-found
 returns-clause-found g c told =
     let wait : c.args.config.now.flags.m ≡ false = search rules in
-    (wait, (c.in_ok-count.field-0, c.if-branch-ge-LAST_POST_NUMBER.false, c.in_ok-count.ensures.read told))
+    (wait, (c.in_ok-count.count, c.if-count-ge-LAST_POST_NUMBER.false, c.in_ok-count.ensures.read told))
+
+pub returns-clause-counted : goal.returns-clause-counted
+returns-clause-counted g c = (c.if-count-ge-LAST_POST_NUMBER.false, c.in_ok-count.ensures.read)
