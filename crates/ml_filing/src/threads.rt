@@ -14,6 +14,7 @@ use ml_base::{Bytes, Numbers, hash, is_post_number, push_netstring, split_netstr
 use ml_keyed::{Keyed, find, text_with};
 use ml_rows::{numbers_of, push_numbers};
 use std::alloc::{AllocError, Global};
+use std::cmp::Ordering;
 
 /// The number of the thread file that has a key: 0 to 255. It takes no memory.
 pub fn thread_place_of(key: &[u8]) -> u8
@@ -64,15 +65,23 @@ fn texts_of(text: &[u8]) -> Option<(&[u8], &[u8], &[u8])>
     Some((key, numbers, rest))
 }
 
-impl Keyed for Thread {
+impl<'a> Keyed<'a> for Thread {
+    type File = u8;
+
     ghost key_of = { λ t. t.key };
+
+    ghost asked = { λ k. k };
 
     ghost spelling = { thread_text };
 
     ghost record_at = { thread_at };
 
-    fn key(&self) -> &[u8] {
-        self.key.as_slice()
+    fn compare(&self, other: &Thread) -> Ordering {
+        self.key.as_slice().cmp(other.key.as_slice())
+    }
+
+    fn has_key(&self, text: &[u8]) -> bool {
+        text == self.key.as_slice()
     }
 
     fn push(&self, alloc: Global, out: &mut Bytes) -> Result<(), AllocError> {
@@ -82,7 +91,11 @@ impl Keyed for Thread {
         push_netstring(out, numbers.as_slice())
     }
 
-    fn read(alloc: Global, n: u8, text: &[u8]) -> Result<Option<(Thread, &[u8])>, AllocError> {
+    fn read(
+        alloc: Global,
+        n: u8,
+        text: &'a [u8],
+    ) -> Result<Option<(Thread, &'a [u8])>, AllocError> {
         let Some((key, numbers, rest)) = texts_of(text) else {
             return Ok(None);
         };

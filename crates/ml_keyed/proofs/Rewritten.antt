@@ -25,25 +25,10 @@ module _ {R : Type 0} (spelling : R → Text) where
   file_spelled [] = refl
   file_spelled (r ∷ rs) = refl
 
-  -- of some records the first were written, if there were any, and the rest is left
-  pub record IsWritten (out : Text) (has_records : Bool) (rest whole : List R) : Type 0 where
-    pub spelled : out ++ flat_map spelling rest ≡ flat_map spelling whole
+  -- of some records the first were written after a start, if there were any, and the rest is left
+  pub record IsWritten (start out : Text) (has_records : Bool) (rest whole : List R) : Type 0 where
+    pub spelled : out ++ flat_map spelling rest ≡ start ++ flat_map spelling whole
     pub some : (has_records || not (is_empty rest)) ≡ not (is_empty whole)
-
--- what two texts that are compared say of a key that is one of them
-pub other_by : (t : Bool) (k a b : Text) → t ≡ not (bytes_eq k a) → a ≡ b → t ≡ true → bytes_eq k b ≡ false
-other_by t k a b is same e = ap (bytes_eq k) (sym same) ∙ go (bytes_eq k a) (sym is ∙ e)
-  where
-    go : (u : Bool) → not u ≡ true → u ≡ false
-    go true e = absurd (false≢true e)
-    go false e = refl
-
-pub own_by : (t : Bool) (k a b : Text) → t ≡ not (bytes_eq k a) → a ≡ b → t ≡ false → bytes_eq k b ≡ true
-own_by t k a b is same e = ap (bytes_eq k) (sym same) ∙ go (bytes_eq k a) (sym is ∙ e)
-  where
-    go : (u : Bool) → not u ≡ false → u ≡ true
-    go true e = refl
-    go false e = absurd (false≢true (sym e))
 
 module _ {R : Type 0} (key_of : R → Text) where
   abbrev with_record : R → List R → List R
@@ -100,9 +85,9 @@ module _ {R : Type 0} (key_of : R → Text) where
     left_first : (k : Text) (r : R) (rs : List R) (t : Bool) → bytes_eq k (key_of r) ≡ t → without k (r ∷ rs) ≡ cond (not t) (r ∷ without k rs) (without k rs)
     left_first k r rs t is = ap (λ u. cond (not u) (r ∷ without k rs) (without k rs)) (same_key k (key_of r) ∙ is)
 
-    pub kept_turn : (k out new : Text) (has_records : Bool) (r : R) (rest more whole : List R) → rest ≡ r ∷ more → bytes_eq k (key_of r) ≡ false → new ≡ out ++ spelling r
-        → IsWritten spelling out has_records (without k rest) whole → IsWritten spelling new true (without k more) whole
-    kept_turn k out new has_records r rest more whole is other made before =
+    pub kept_turn : (k start out new : Text) (has_records : Bool) (r : R) (rest more whole : List R) → rest ≡ r ∷ more → bytes_eq k (key_of r) ≡ false → new ≡ out ++ spelling r
+        → IsWritten spelling start out has_records (without k rest) whole → IsWritten spelling start new true (without k more) whole
+    kept_turn k start out new has_records r rest more whole is other made before =
         let here : without k rest ≡ r ∷ without k more = ap (without k) is ∙ left_first k r more false other in
         record {
           spelled = ap (λ t. t ++ texts (without k more)) made ∙ append_assoc out (spelling r) (texts (without k more)) ∙ ap (λ rs. out ++ texts rs) (sym here) ∙ before.spelled;
@@ -113,9 +98,9 @@ module _ {R : Type 0} (key_of : R → Text) where
         go true = refl
         go false = refl
 
-    pub gone_turn : (k out : Text) (has_records : Bool) (r : R) (rest more whole : List R) → rest ≡ r ∷ more → bytes_eq k (key_of r) ≡ true
-        → IsWritten spelling out has_records (without k rest) whole → IsWritten spelling out has_records (without k more) whole
-    gone_turn k out has_records r rest more whole is own before =
+    pub gone_turn : (k start out : Text) (has_records : Bool) (r : R) (rest more whole : List R) → rest ≡ r ∷ more → bytes_eq k (key_of r) ≡ true
+        → IsWritten spelling start out has_records (without k rest) whole → IsWritten spelling start out has_records (without k more) whole
+    gone_turn k start out has_records r rest more whole is own before =
         let here : without k rest ≡ without k more = ap (without k) is ∙ left_first k r more true own in
         record {
           spelled = ap (λ rs. out ++ texts rs) (sym here) ∙ before.spelled;

@@ -15,9 +15,9 @@ pub record IsRecordFile {R : Type 0} (IsRecord : ℕ → R → Type 0) (key_of s
   pub sorted : IsOrdered key_of records
   pub spelled : unwrap_or file [] ≡ flat_map spelling records
 
--- the records of the file with this number, in a row in ascending order of key, if a text is such a file
-abbrev pub records_in : {R : Type 0} → (ℕ → ℕ → Text → Option (R × Text)) → (R → Text) → ℕ → Text → Option (List R)
-records_in record_at key_of n text = only_if (is_sorted byte_cmp key_of) (row_of (record_at n) 0 text)
+-- the records of a file, in a row in ascending order of key, if a text is such a file
+abbrev pub records_in : {F R : Type 0} → (F → ℕ → Text → Option (R × Text)) → (R → Text) → F → Text → Option (List R)
+records_in record_at key_of file text = only_if (is_sorted byte_cmp key_of) (row_of (record_at file) 0 text)
 
 -- the file that a change leaves for a row of records: no file if there are no records
 abbrev pub file_of : {R : Type 0} → (R → Text) → List R → Option Text

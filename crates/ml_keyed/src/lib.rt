@@ -12,7 +12,7 @@ mod records;
 
 use ml_base::{hash, hash_lower};
 pub use record_reader::{find, read_file};
-pub use record_writer::{file_without, text_with};
+pub use record_writer::{file_without, push_with, push_without, text_with};
 pub use records::Keyed;
 
 /// The number of the file that has a key, 0 to 52. It takes no memory.

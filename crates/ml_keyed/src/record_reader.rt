@@ -11,14 +11,18 @@ use ml_base::Row;
 use std::alloc::{AllocError, Global};
 use std::cmp::Ordering;
 
-// The records that a text spells one after another, in the file with this number.
-fn read_all<R: Keyed>(alloc: Global, n: u8, text: &[u8]) -> Result<Option<Row<R>>, AllocError>
-    ensures { IfOk result (λ r. r ≡ row_of (R.record_at n) 0 text.now) }
+// The records that a text spells one after another, in a file.
+fn read_all<'a, R: Keyed<'a>>(
+    alloc: Global,
+    file: R::File,
+    text: &'a [u8],
+) -> Result<Option<Row<R>>, AllocError>
+    ensures { IfOk result (λ r. r ≡ row_of (R.record_at file) 0 text.now) }
 {
     let mut out = Row::new(alloc);
     let mut rest = text;
     while !rest.is_empty() {
-        let Some((record, more)) = R::read(alloc, n, rest)? else {
+        let Some((record, more)) = R::read(alloc, file, rest)? else {
             return Ok(None);
         };
         out.push(record)?;
@@ -27,30 +31,30 @@ fn read_all<R: Keyed>(alloc: Global, n: u8, text: &[u8]) -> Result<Option<Row<R>
     Ok(Some(out))
 }
 
-// Whether a text comes before another in the order of bytes.
-pub(crate) fn is_before(a: &[u8], b: &[u8]) -> bool
-    ensures { result ≡ is_lt (byte_cmp a.now b.now) }
+// Whether the key of a record is below that of another.
+pub(crate) fn is_before<'a, R: Keyed<'a>>(one: &R, other: &R) -> bool
+    ensures { result ≡ is_lt (byte_cmp (R.key_of one.now) (R.key_of other.now)) }
 {
-    a.cmp(b) == Ordering::Less
+    one.compare(other) == Ordering::Less
 }
 
-// Whether a key is below that of the first of some records.
-fn is_below_first<R: Keyed>(key: &[u8], records: &[R]) -> bool
-    ensures { result ≡ spec.is_below_first byte_cmp R.key_of key.now records.now }
+// Whether the key of a record is below that of the first of some others.
+fn is_below_first<'a, R: Keyed<'a>>(one: &R, others: &[R]) -> bool
+    ensures { result ≡ spec.is_below_first byte_cmp R.key_of (R.key_of one.now) others.now }
 {
-    match records {
+    match others {
         [] => true,
-        [first, ..] => is_before(key, first.key()),
+        [first, ..] => is_before(one, first),
     }
 }
 
 // Whether the keys of records are in ascending order.
-fn keys_rise<R: Keyed>(records: &[R]) -> bool
+fn keys_rise<'a, R: Keyed<'a>>(records: &[R]) -> bool
     ensures { result ≡ is_sorted byte_cmp R.key_of records.now }
 {
     let mut rest = records;
     while let [first, more @ ..] = rest {
-        if !is_below_first(first.key(), more) {
+        if !is_below_first(first, more) {
             return false;
         }
         rest = more;
@@ -58,11 +62,15 @@ fn keys_rise<R: Keyed>(records: &[R]) -> bool
     true
 }
 
-/// The records of the file with this number, or None if the text is no such file.
-pub fn read_file<R: Keyed>(alloc: Global, n: u8, text: &[u8]) -> Result<Option<Row<R>>, AllocError>
-    ensures { IfOk result (λ r. r ≡ spec.records_in R.record_at R.key_of n text.now) }
+/// The records of a file, or None if the text is no such file.
+pub fn read_file<'a, R: Keyed<'a>>(
+    alloc: Global,
+    file: R::File,
+    text: &'a [u8],
+) -> Result<Option<Row<R>>, AllocError>
+    ensures { IfOk result (λ r. r ≡ spec.records_in R.record_at R.key_of file text.now) }
 {
-    let Some(records) = read_all(alloc, n, text)? else {
+    let Some(records) = read_all(alloc, file, text)? else {
         return Ok(None);
     };
     if keys_rise(records.as_slice()) {
@@ -72,13 +80,13 @@ pub fn read_file<R: Keyed>(alloc: Global, n: u8, text: &[u8]) -> Result<Option<R
     }
 }
 
-/// The record of a key, or None if there is none. It takes no memory.
-pub fn find<'a, R: Keyed>(records: &'a [R], key: &[u8]) -> Option<&'a R>
-    ensures { option_map (λ r. r.now) result ≡ entry_of byte_cmp R.key_of key.now records.now }
+/// The record of the key that a text asks for, or None if there is none. It takes no memory.
+pub fn find<'a, 'r, R: Keyed<'a>>(records: &'r [R], key: &[u8]) -> Option<&'r R>
+    ensures { option_map (λ r. r.now) result ≡ entry_of byte_cmp R.key_of (R.asked key.now) records.now }
 {
     let mut rest = records;
     while let [first, more @ ..] = rest {
-        if key == first.key() {
+        if first.has_key(key) {
             return Some(first);
         }
         rest = more;

@@ -6,7 +6,7 @@ use Rattle.ml_keyed.proofs.record_reader.read_all.Goals as goal
 
 pub loop-rest-preserved : goal.loop-rest-preserved
 loop-rest-preserved g c =
-    let record_at = g.R.Keyed.record_at c.args.n in
+    let record_at = g.R.Keyed.record_at c.args.file in
     let rest = c.loop-rest.rest.now in
     let read = c.in_ok-record.ensures in
     let found = some_is c.in_ok-record.field-0 (c.in-Some.record, c.in-Some.more) (λ r. (place : ℕ) → record_at place rest ≡ Some (r.0, r.1.now)) c.in-Some.is read.some in
