@@ -16,7 +16,7 @@ use Rattle.ml_subs.specs.Buckets.{IsBucketFile}
 use Rattle.ml_base.specs.Bytes.{Text}
 use Rattle.ml_subs.specs.Subscribers.{AreFiles, file_in, AreBuckets, AreJoined, AreSubscribers, Breaks, IsBucketName, IsNoCount, is_of_set, bucket_name, count_name, count_text}
 use Rattle.ml_base.proofs.DamagedNames.{on_damaged}
-use Rattle.ml_subs.proofs.Rewritten.{count_one, some_one}
+use Rattle.ml_subs.proofs.Counted.{count_one, some_one}
 use Rattle.ml_subs.proofs.Represented.{bucket_hashed, bucket_ordered, bucket_own, count_own, broken, made_of, counted_one}
 
 -- the members that the first buckets have

@@ -1,10 +1,8 @@
 pub mod Folded
 pub mod Options
 pub mod Spelled
-pub mod Placed
-pub mod Known
-pub mod Starts
-pub mod Rewritten
+pub mod Layouts
+pub mod Counted
 pub mod Represented
 pub mod Answering
 pub mod Gathering

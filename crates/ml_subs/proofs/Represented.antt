@@ -28,17 +28,9 @@ use Rattle.ml_subs.specs.Members.{member_key, member_of, has_key, with_member, w
 use Rattle.ml_subs.specs.Buckets.{bucket_of, bucket_file, bucket_text, layout_line, records, IsBucket, IsBucketFile, IsMember}
 use Rattle.ml_subs.specs.Subscribers.{AreBuckets, AreJoined, AreSubscribers, IsBucketOf, Breaks, bucket_name, count_name, count_text, is_of_set, is_touched}
 use Rattle.ml_subs.specs.Answers.{changes}
-use Rattle.ml_subs.specs.Reading.{AreRead, IsFront}
-use Rattle.ml_subs.proofs.Spelled.{read_first, read_after, read_empty, record_parts}
-use Rattle.ml_subs.proofs.Placed.{layout_only}
-
--- bytes are read as one list of members
-read_one : (layout : Layout) (n : ℕ) (floor text : Text) (ms ns : List Member) → AreRead layout n floor text ms → AreRead layout n floor text ns → ms ≡ ns
-read_one layout n floor text [] ns is other = sym (read_empty layout n floor text ns (ap length is.spelled) other)
-read_one layout n floor text (m ∷ ms) ns is other =
-    let first = read_first layout n floor text m ms is in
-    let rest = read_after layout n floor text m (records layout ms) ns first.begins other in
-    ap (λ l. m ∷ l) (read_one layout n m.who (records layout ms) ms rest.0 first.more rest.2) ∙ sym rest.1
+use Rattle.ml_subs.specs.Reading.{IsFront}
+use Rattle.ml_subs.proofs.Spelled.{record_parts}
+use Rattle.ml_subs.proofs.Layouts.{body_one, layout_only}
 
 -- a bucket's text has one layout only
 own_front : (n : ℕ) (text : Text) (ms : List Member) (is : IsBucket n text ms) → IsFront text is.layout (records is.layout ms)
@@ -53,7 +45,7 @@ pub bucket_one : (n : ℕ) (file : Option Text) (ms others : List Member) → Is
 bucket_one n None ms others is other = is ∙ sym other
 bucket_one n (Some text) ms others is other =
     let front = own_front n text ms is in
-    read_one is.layout n [] (records is.layout ms) ms others (layout_only text is.layout (records is.layout ms) front n ms is) (layout_only text is.layout (records is.layout ms) front n others other)
+    body_one is.layout n (records is.layout ms) ms others (layout_only text is.layout (records is.layout ms) front n ms is) (layout_only text is.layout (records is.layout ms) front n others other)
 
 pub bucket_ordered : (n : ℕ) (file : Option Text) (ms : List Member) → IsBucketFile n file ms → IsOrdered ms
 bucket_ordered n None ms is = subst IsOrdered (sym is) refl

@@ -10,25 +10,10 @@ ghost use Rattle.ml_subs.specs.Subscribers.{AreSubscribers, AreBuckets, IsNoBuck
 ghost use Rattle.ml_keyed.specs.Buckets.{counted};
 ghost use Rattle.ml_subs.specs.Subscribers as spec;
 
+use crate::bucket_texts::read_bucket;
 use crate::counts::count_of;
-use crate::places::split_layout;
-use crate::records::count_members;
-use ml_base::{Bytes, Files, Name, PartError, Set};
+use ml_base::{Files, Name, PartError, Set};
 use std::alloc::Global;
-
-// How many members a bucket's file has, or None if it is outside its grammar.
-fn count_bucket(n: u8, file: &Option<Bytes>) -> Option<usize>
-    ensures some { IfSome result (λ count. (ms : List Member) × IsBucketFile n file.now ms × (count ≡ length ms)) }
-    ensures none { IfNone result ((ms : List Member) → ¬ IsBucketFile n file.now ms) }
-{
-    match file {
-        None => Some(0),
-        Some(text) => {
-            let (layout, body) = split_layout(text.as_slice())?;
-            count_members(layout, n, b"", body)
-        }
-    }
-}
 
 // How many members one bucket of a set has.
 fn audit_bucket<F: Files>(alloc: Global, files: &mut F, set: Set, n: u8) -> Result<u64, PartError>
@@ -39,8 +24,8 @@ fn audit_bucket<F: Files>(alloc: Global, files: &mut F, set: Set, n: u8) -> Resu
 {
     let name = Name::bucket(set, n);
     let file = files.get(alloc, name)?;
-    match count_bucket(n, &file) {
-        Some(count) => Ok(count as u64),
+    match read_bucket(alloc, n, &file)? {
+        Some(members) => Ok(members.as_slice().len() as u64),
         None => Err(PartError::Damaged(name)),
     }
 }

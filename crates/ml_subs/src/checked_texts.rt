@@ -1,10 +1,14 @@
 // Remembers texts of buckets that are known to be in their grammar, so that they aren't checked again.
-ghost use Rattle.std.specs.Prelude.{IsTrue, List};
+ghost use Rattle.std.specs.Prelude.{◌≡◌, ◌<◌, ℕ, length, Some, IsTrue, List, IfOk, IfSome, IfNone};
+ghost use Rattle.ml_base.specs.Bytes.{Text};
 ghost use Rattle.ml_subs.specs.declared.member_list.Member.{Member};
 ghost use Rattle.ml_subs.specs.Buckets.{IsBucket, IsBucketFile};
+ghost use Rattle.ml_subs.specs.Reading.{AreRead, moment_at, record_at};
 
-use ml_base::{Bytes, Row};
-use std::alloc::Global;
+use crate::bucket_texts::{read_bucket, split_layout};
+use crate::records::{Layout, Record};
+use ml_base::{Bytes, LAST_MOMENT, Row, number_within, split_first};
+use std::alloc::{AllocError, Global};
 use std::marker::Model;
 
 // The longest text that is remembered, in bytes. All 53 together take 1.7 MiB at most.
@@ -95,4 +99,83 @@ impl Checked {
             self.note(alloc, n, text.as_slice());
         }
     }
+}
+
+// The moment that bytes are known to begin with in a layout, and what comes after it.
+fn known_moment(layout: Layout, text: &[u8]) -> (u64, &[u8])
+    requires { (since : ℕ) × ((more : Text) × (moment_at layout text.now ≡ Some (since, more))) }
+    ensures { moment_at layout text.now ≡ Some (result.0, result.1.now) }
+{
+    let Layout::Dated = layout else {
+        return (0, text);
+    };
+    let Some((digits, more)) = split_first(0, text) else {
+        unreachable!()
+    };
+    let Some(since) = number_within(LAST_MOMENT, digits) else {
+        unreachable!()
+    };
+    (since, more)
+}
+
+// The record that bytes are known to begin with, and what comes after it.
+fn known_record(layout: Layout, text: &[u8]) -> (Record<'_>, &[u8])
+    requires { (m : Member) × ((more : Text) × (record_at layout text.now ≡ Some (m, more))) }
+    ensures value { record_at layout text.now ≡ Some (result.0, result.1.now) }
+    ensures shorter { length result.1.now < length text.now }
+{
+    let [_, rest @ ..] = text else { unreachable!() };
+    let Some((who, rest)) = split_first(0, rest) else {
+        unreachable!()
+    };
+    let (since, more) = known_moment(layout, rest);
+    let own = &text[..text.len() - more.len()];
+    (Record::new(layout, own, who, since), more)
+}
+
+// The members of a bucket, of which its records are known to spell some.
+fn known_members<'a>(
+    alloc: Global,
+    n: u8,
+    layout: Layout,
+    body: &'a [u8],
+) -> Result<Row<Record<'a>>, AllocError>
+    requires { (ms : List Member) × AreRead layout n body.now ms }
+    ensures { IfOk result (AreRead layout n body.now) }
+{
+    let mut out = Row::new(alloc);
+    let mut rest = body;
+    while !rest.is_empty() {
+        let (record, more) = known_record(layout, rest);
+        out.push(record)?;
+        rest = more;
+    }
+    Ok(out)
+}
+
+// The members of the bucket with a number, or None if its file is outside its grammar. A text that is remembered isn't
+// checked again; another one is checked and then remembered.
+pub(crate) fn read_again<'a>(
+    alloc: Global,
+    checked: &mut Checked,
+    n: u8,
+    file: &'a Option<Bytes>,
+) -> Result<Option<Row<Record<'a>>>, AllocError>
+    ensures some { IfOk result (λ r. IfSome r (IsBucketFile n file.now)) }
+    ensures none { IfOk result (λ r. IfNone r ((ms : List Member) → ¬ IsBucketFile n file.now ms)) }
+{
+    let Some(text) = file else {
+        return Ok(Some(Row::new(alloc)));
+    };
+    if checked.has(n, text.as_slice()) {
+        let Some((layout, body)) = split_layout(text.as_slice()) else {
+            return Ok(None);
+        };
+        return Ok(Some(known_members(alloc, n, layout, body)?));
+    }
+    let Some(members) = read_bucket(alloc, n, file)? else {
+        return Ok(None);
+    };
+    checked.note(alloc, n, text.as_slice());
+    Ok(Some(members))
 }

@@ -4,15 +4,12 @@
 
 mod audits;
 mod bucket_number;
-mod bucket_writer;
+mod bucket_texts;
 mod checked_texts;
 mod counts;
-mod keyed_members;
-mod known_places;
 mod laws;
 mod lists;
 mod member_list;
-mod places;
 mod records;
 mod set_changes;
 mod sets;

@@ -11,53 +11,12 @@ ghost use Rattle.ml_subs.specs.Members.{member_key, IsOrdered};
 ghost use Rattle.ml_subs.specs.Buckets.{IsBucketFile};
 ghost use Rattle.ml_keyed.specs.Buckets.{gathered};
 ghost use Rattle.ml_subs.specs.Subscribers.{AreSubscribers, AreJoined, AreBuckets, AreFiles, IsSpelled, file_in, IsBucketName, IsBadBucket};
-ghost use Rattle.ml_subs.specs.Reading.{AreRead, AreAdded};
 
-use crate::keyed_members::Keyed;
-use crate::places::split_layout;
-use crate::records::{Layout, next_member};
+use crate::bucket_texts::read_bucket;
+use crate::records::Record;
 use crate::{Member, MemberList};
 use ml_base::{AddressList, Bytes, Files, Name, PartError, Row, Set};
 use std::alloc::{AllocError, Global};
-
-// Adds the members that bytes spell. False if the bytes don't spell members of the bucket in order.
-fn add_members<'a>(
-    layout: Layout,
-    n: u8,
-    text: &'a [u8],
-    out: &mut Row<Keyed<'a>>,
-) -> Result<bool, AllocError>
-    ensures { IfOk result (λ is. AreAdded out.old out.new is (AreRead layout n [] text.now)) }
-{
-    let mut last: &[u8] = b"";
-    let mut rest = text;
-    while !rest.is_empty() {
-        let Some((record, more)) = next_member(layout, n, last, rest) else {
-            return Ok(false);
-        };
-        out.push(Keyed::new(record))?;
-        last = record.who;
-        rest = more;
-    }
-    Ok(true)
-}
-
-// Adds the members of a bucket's file. False if it is outside its grammar.
-fn add_bucket<'a>(
-    n: u8,
-    file: &'a Option<Bytes>,
-    out: &mut Row<Keyed<'a>>,
-) -> Result<bool, AllocError>
-    ensures { IfOk result (λ is. AreAdded out.old out.new is (IsBucketFile n file.now)) }
-{
-    match file {
-        None => Ok(true),
-        Some(text) => match split_layout(text.as_slice()) {
-            Some((layout, body)) => add_members(layout, n, body, out),
-            None => Ok(false),
-        },
-    }
-}
 
 // Reads the files of a set's buckets.
 fn read_files<F: Files>(
@@ -83,7 +42,7 @@ fn spelled_members<'a>(
     alloc: Global,
     set: Set,
     texts: &'a Row<Option<Bytes>>,
-) -> Result<Row<Keyed<'a>>, PartError>
+) -> Result<Row<Record<'a>>, PartError>
     requires { length texts.now ≡ 53 }
     ensures value { IfOk result (λ ms. (buckets : ℕ → List Member) × AreBuckets (file_in texts.now) set buckets × (ms ≡ gathered buckets 53)) }
     ensures names { IfErr result (λ e. OnDamaged e (IsBadBucket (file_in texts.now) set)) }
@@ -92,30 +51,31 @@ fn spelled_members<'a>(
     let mut found = Row::new(alloc);
     for n in 0..53 {
         let file = &texts.as_slice()[n as usize];
-        if !add_bucket(n, file, &mut found)? {
+        let Some(members) = read_bucket(alloc, n, file)? else {
             return Err(PartError::Damaged(Name::bucket(set, n)));
-        }
+        };
+        found.join(members)?;
     }
     Ok(found)
 }
 
 // The members in the order of their keys. Those of one bucket are in order already, and the sort merges such rows.
-fn in_order<'a>(list: Row<Keyed<'a>>) -> Result<Row<Keyed<'a>>, AllocError>
+fn in_order<'a>(list: Row<Record<'a>>) -> Result<Row<Record<'a>>, AllocError>
     ensures permutation { IfOk result (IsPermutation list.entry) }
     ensures sorted { IfOk result (IsSortedByKey member_key byte_cmp) }
 {
     let mut items = list.into_vec();
-    items.sort_by(|a, b| a.compare(b))?;
+    items.sort_by(|a, b| a.compare_to(b))?;
     Ok(Row::from_vec(items))
 }
 
 // The members, with copies of their addresses.
-fn copied_members(alloc: Global, list: &Row<Keyed<'_>>) -> Result<MemberList, AllocError>
+fn copied_members(alloc: Global, list: &Row<Record<'_>>) -> Result<MemberList, AllocError>
     ensures { IfOk result (λ members. members ≡ list.now) }
 {
     let mut members = Vec::with_capacity(alloc, list.as_slice().len())?;
-    for keyed in list.as_slice() {
-        members.push(keyed.member(alloc)?)?;
+    for record in list.as_slice() {
+        members.push(record.member(alloc)?)?;
     }
     Ok(Row::from_vec(members))
 }

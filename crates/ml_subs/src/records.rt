@@ -1,16 +1,23 @@
-// Reads the records of a bucket's text: an address, and in layout 2 a moment.
-ghost use Rattle.std.specs.Prelude.{◌≡◌, ◌≢◌, ◌<◌, ◌≤◌, ◌↔◌, true, ◌++◌, ◌∷◌, List, ℕ, IsTrue, IfOk, IfSome, IfNone, length};
-ghost use Rattle.ml_base.specs.Bytes.{Text};
-ghost use Rattle.ml_base.specs.Address.{IsAddress};
-ghost use Rattle.ml_base.specs.Keys as keys;
-ghost use Rattle.ml_subs.specs.declared.member_list.Member.{Member};
-ghost use Rattle.ml_subs.specs.Buckets.{IsMember, IsMomentIn, moment_text};
-ghost use Rattle.ml_subs.specs.Reading.{AreRead, BeginsWith, as_member};
+// Members as the records of a bucket's text: an address, and in layout 2 a moment.
+ghost use Rattle.std.specs.Prelude.{◌≡◌, ◌<◌, length, IfOk, IfSome};
+ghost use Rattle.std.specs.Char.{is_ascii_uppercase};
+ghost use Rattle.std.specs.List.{list_any};
+ghost use Rattle.std.specs.Option.{option_map};
+ghost use Rattle.ml_base.specs.Address.{IsAddress, key};
+ghost use Rattle.ml_base.specs.Sorted.{byte_cmp};
+ghost use Rattle.ml_subs.specs.declared.records.Layout.TheVariants.{Dated};
+ghost use Rattle.ml_subs.specs.Buckets.{IsMomentIn, record_text};
+ghost use Rattle.ml_subs.specs.Members.{member_key};
+ghost use Rattle.ml_subs.specs.Reading.{member_at, member_by, moment_at, record_at};
 
 use crate::Member;
-use ml_base::{Address, LAST_MOMENT, is_below, is_canonical, number_within, split_first};
-use ml_keyed::bucket_of_lower;
+use ml_base::{
+    Address, Bytes, LAST_MOMENT, compare_keys, is_canonical, number_within, split_first,
+};
+use ml_keyed::{Keyed, bucket_of_lower};
 use std::alloc::{AllocError, Global};
+use std::cmp::Ordering;
+use std::marker::Model;
 
 // How a bucket's records are spelled: in layout 1 only addresses, in layout 2 their moments too.
 #[derive(Clone, Copy)]
@@ -19,17 +26,84 @@ pub(crate) enum Layout {
     Dated,
 }
 
-// A record of a bucket's text.
+// What has to be known of a bucket's file to read it: its number, and how its records are spelled.
 #[derive(Clone, Copy)]
+pub(crate) struct BucketForm {
+    pub n: u8,
+    pub layout: Layout,
+}
+
+// A member's record, which points into a text, and whether his address is its own key. In contracts it stands for the
+// member.
+#[derive(Drop)]
 pub(crate) struct Record<'a> {
-    pub who: &'a [u8],
-    pub since: u64,
+    layout: Layout,
+    text: &'a [u8],
+    who: &'a [u8],
+    since: u64,
+    is_key: bool,
+}
+
+impl<'a> Model for Record<'a> {
+    ghost use Rattle.ml_subs.specs.declared.member_list.Member.{Member};
+    ghost use Rattle.ml_subs.specs.Reading.{IsOwn, member_by};
+
+    ghost Value = { Member };
+
+    ghost view = { λ r. member_by r.who.now r.since };
+
+    ghost invariant = { λ r. IsOwn r.layout r.text.now r.who.now r.since r.is_key };
+}
+
+// Whether a text has a capital letter.
+fn has_capital(text: &[u8]) -> bool
+    ensures { result ≡ list_any is_ascii_uppercase text.now }
+{
+    text.iter().any(|byte| byte.is_ascii_uppercase())
+}
+
+impl<'a> Record<'a> {
+    // The record of an address and a moment, which has this text.
+    pub(crate) fn new(layout: Layout, text: &'a [u8], who: &'a [u8], since: u64) -> Record<'a>
+        requires address { IsAddress who.now }
+        requires moment { IsMomentIn layout since }
+        requires text { text.now ≡ record_text layout (member_by who.now since) }
+        ensures { result ≡ member_by who.now since }
+    {
+        Record {
+            layout,
+            text,
+            who,
+            since,
+            is_key: !has_capital(who),
+        }
+    }
+
+    // The member, with a copy of his address.
+    pub(crate) fn member(&self, alloc: Global) -> Result<Member, AllocError>
+        ensures { IfOk result (λ m. m ≡ self.now) }
+    {
+        Ok(Member {
+            who: Address::from_canonical(alloc, self.who)?,
+            since: self.since,
+        })
+    }
+
+    // The order of the keys of two members. Addresses that are their own keys are compared without folding.
+    pub(crate) fn compare_to(&self, other: &Record<'_>) -> Ordering
+        ensures { result ≡ byte_cmp (member_key self.now) (member_key other.now) }
+    {
+        if self.is_key && other.is_key {
+            self.who.cmp(other.who)
+        } else {
+            compare_keys(self.who, other.who)
+        }
+    }
 }
 
 // The moment that bytes begin with in a layout, and what comes after it.
 fn next_moment(layout: Layout, text: &[u8]) -> Option<(u64, &[u8])>
-    ensures some { IfSome result (λ r. IsMomentIn layout r.0 × (text.now ≡ moment_text layout r.0 ++ r.1.now)) }
-    ensures none { IfNone result ((since : ℕ) (more : Text) → IsMomentIn layout since → text.now ≢ moment_text layout since ++ more) }
+    ensures { option_map (λ r. (r.0, r.1.now)) result ≡ moment_at layout text.now }
 {
     match layout {
         Layout::Undated => Some((0, text)),
@@ -40,22 +114,10 @@ fn next_moment(layout: Layout, text: &[u8]) -> Option<(u64, &[u8])>
     }
 }
 
-// The member of a record, whose text is an address.
-pub(crate) fn member_from(alloc: Global, found: Record<'_>) -> Result<Member, AllocError>
-    requires { IsAddress found.who.now }
-    ensures { IfOk result (λ m. m ≡ as_member found.entry) }
-{
-    let who = Address::from_canonical(alloc, found.who)?;
-    Ok(Member {
-        who,
-        since: found.since,
-    })
-}
-
 // The record that bytes begin with, and what comes after it, or None if they begin with none.
 pub(crate) fn next_record(layout: Layout, text: &[u8]) -> Option<(Record<'_>, &[u8])>
-    ensures some { IfSome result (λ r. BeginsWith layout text.now (as_member r.0) r.1.now) }
-    ensures none { IfNone result ((m : Member) (more : Text) → ¬ BeginsWith layout text.now m more) }
+    ensures value { option_map (λ r. (r.0, r.1.now)) result ≡ record_at layout text.now }
+    ensures shorter { IfSome result (λ r. length r.1.now < length text.now) }
 {
     let [first, rest @ ..] = text else {
         return None;
@@ -68,47 +130,48 @@ pub(crate) fn next_record(layout: Layout, text: &[u8]) -> Option<(Record<'_>, &[
         return None;
     }
     let (since, more) = next_moment(layout, rest)?;
-    Some((Record { who, since }, more))
+    let own = &text[..text.len() - more.len()];
+    Some((Record::new(layout, own, who, since), more))
 }
 
-// The record that bytes begin with, and what comes after it, or None if they begin with none whose address belongs to
-// the bucket and has a key above that of `floor`.
-pub(crate) fn next_member<'a>(
-    layout: Layout,
-    n: u8,
-    floor: &[u8],
-    text: &'a [u8],
-) -> Option<(Record<'a>, &'a [u8])>
-    ensures some { IfSome result (λ r. BeginsWith layout text.now (as_member r.0) r.1.now × IsMember layout n (as_member r.0) × (keys.is_below floor.now (as_member r.0).who ≡ true)) }
-    ensures none { IfNone result ((m : Member) (ms : List Member) → ¬ AreRead layout n floor.now text.now (m ∷ ms)) }
-    ensures shorter { IfSome result (λ r. length r.1.now < length text.now) }
-{
-    let (record, more) = next_record(layout, text)?;
-    if !is_below(floor, record.who) {
-        return None;
-    }
-    if bucket_of_lower(record.who) != n {
-        return None;
-    }
-    Some((record, more))
-}
+impl<'a> Keyed<'a> for Record<'a> {
+    type File = BucketForm;
 
-// How many members bytes spell, all of the bucket and with rising keys above that of `floor`, or None if they don't
-// spell such members.
-pub(crate) fn count_members(layout: Layout, n: u8, floor: &[u8], text: &[u8]) -> Option<usize>
-    ensures some { IfSome result (λ count. (ms : List Member) × AreRead layout n floor.now text.now ms × (count ≡ length ms)) }
-    ensures none { IfNone result ((ms : List Member) → ¬ AreRead layout n floor.now text.now ms) }
-{
-    let mut count = 0;
-    let mut last = floor;
-    let mut rest = text;
-    while !rest.is_empty() {
-        let Some((record, more)) = next_member(layout, n, last, rest) else {
-            return None;
+    ghost key_of = { member_key };
+
+    ghost asked = { key };
+
+    ghost spelling = { record_text Dated };
+
+    ghost record_at = { member_at };
+
+    fn compare(&self, other: &Record<'a>) -> Ordering {
+        self.compare_to(other)
+    }
+
+    fn has_key(&self, text: &[u8]) -> bool {
+        self.who.eq_ignore_ascii_case(text)
+    }
+
+    fn push(&self, _alloc: Global, out: &mut Bytes) -> Result<(), AllocError> {
+        out.extend(self.text)?;
+        if let Layout::Undated = self.layout {
+            out.extend(b"0\x00")?;
+        }
+        Ok(())
+    }
+
+    fn read(
+        _alloc: Global,
+        form: BucketForm,
+        text: &'a [u8],
+    ) -> Result<Option<(Record<'a>, &'a [u8])>, AllocError> {
+        let Some((record, more)) = next_record(form.layout, text) else {
+            return Ok(None);
         };
-        count += 1;
-        last = record.who;
-        rest = more;
+        if bucket_of_lower(record.who) != form.n {
+            return Ok(None);
+        }
+        Ok(Some((record, more)))
     }
-    Some(count)
 }

@@ -1,5 +1,5 @@
 use Rattle.std.proofs.Common.{◌∙◌, ap}
-use Rattle.ml_subs.proofs.Rewritten.{count_low}
+use Rattle.ml_subs.proofs.Counted.{count_low}
 use Rattle.ml_subs.proofs.counts.count_of.Goals as goal
 
 pub returns-then-count-least-clause-names : goal.returns-then-count-least-clause-names

@@ -2,7 +2,7 @@ use Rattle.std.proofs.Common.{◌∙◌, [], ◌∷◌, sym, Some}
 use Rattle.std.proofs.lemmas.Bool.Decides.{Decides-eqb}
 use Rattle.std.proofs.lemmas.Slice.Eq.{strip_suffix_is}
 use Rattle.ml_subs.proofs.Options.{if_some, if_none_from}
-use Rattle.ml_subs.proofs.Rewritten.{count_read, count_unread}
+use Rattle.ml_subs.proofs.Counted.{count_read, count_unread}
 use Rattle.ml_subs.proofs.counts.read_count.Goals as goal
 
 pub returns-clause-some : goal.returns-clause-some

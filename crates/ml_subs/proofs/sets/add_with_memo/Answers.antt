@@ -1,26 +1,27 @@
-use Rattle.std.proofs.Common.{◌≡◌, ◌∙◌, ◌+◌, ap, ap₂, sym, subst, rules, arith, true, false, ℕ, Some, Option}
+use Rattle.std.proofs.Common.{◌≡◌, ◌∙◌, ◌+◌, ap, ap₂, sym, subst, rules, arith, true, false, ℕ, List, Some, Option, IfSome}
 use Rattle.std.proofs.lemmas.Result.{IfErr-weaker}
 use Rattle.ml_base.specs.Bytes.{Text}
 use Rattle.ml_base.specs.Address.{key}
 use Rattle.ml_base.specs.Dir.{Dir}
+use Rattle.ml_subs.specs.declared.member_list.Member.{Member}
 use Rattle.ml_subs.specs.declared.set_changes.AddAnswer.TheVariants.{Added}
 use Rattle.ml_subs.specs.Buckets.{bucket_file, bucket_of, IsBucketFile}
 use Rattle.ml_subs.specs.Subscribers.{IsNoCount, IsUnread, count_name, count_text, is_touched}
 use Rattle.ml_base.specs.PartErrors.{OnDamaged}
 use Rattle.ml_subs.specs.Answers.{changes}
-use Rattle.ml_subs.specs.Reading.{all_members, member_by}
+use Rattle.ml_subs.specs.Reading.{member_by}
 use Rattle.ml_base.proofs.DamagedNames.{on_damaged, on_both}
 use Rattle.ml_subs.specs.Members.{with_member}
 use Rattle.ml_subs.proofs.Represented.{bucket_with}
-use Rattle.ml_subs.proofs.Answering.{sides_has, sides_with, file_with, bucket_there, addition, has_of_set, count_of_set, count_touched, unread_count, unread}
+use Rattle.ml_subs.proofs.Answering.{file_with, has_found, bucket_there, addition, has_of_set, count_of_set, count_touched, unread_count, unread}
 use Rattle.ml_subs.proofs.sets.add_with_memo.Goals as goal
 
 pub returns-then-is_some-clause-read : goal.returns-then-is_some-clause-read
 returns-then-is_some-clause-read g c told =
-    let place = c.in-Some.ensures.some in (
-      all_members place.0,
-      bucket_there (g.F.Files.map c.args.files.now) c.args.set (key c.args.a.now) c.bucket-n.result c.bucket-name.result c.in_ok-file.file (all_members place.0) c.bucket-n.ensures.value c.bucket-name.ensures.name (c.in_ok-file.ensures.value told) place.1,
-      sides_has c.in-Some.place.here place.0 ∙ sym c.is_some.ensures ∙ c.if-is_some.true,
+    let is = subst (λ (o : Option (List Member)). IfSome o (IsBucketFile c.bucket-n.result c.in_ok-file.file)) c.in-Some.is c.in_ok-members.ensures.some in (
+      c.in-Some.members,
+      bucket_there (g.F.Files.map c.args.files.now) c.args.set (key c.args.a.now) c.bucket-n.result c.bucket-name.result c.in_ok-file.file c.in-Some.members c.bucket-n.ensures.value c.bucket-name.ensures.name (c.in_ok-file.ensures.value told) is,
+      (has_found (λ r. r.now) (key c.args.a.now) c.in-Some.members c.lookup.result c.lookup.ensures) ∙ sym c.is_some.ensures ∙ c.if-is_some.true,
     )
 
 pub returns-then-is_some-clause-value : goal.returns-then-is_some-clause-value
@@ -30,13 +31,13 @@ returns-then-is_some-clause-value g c told ms is =
 
 pub returns-then-count-eq-MAX_MEMBERS-clause-read : goal.returns-then-count-eq-MAX_MEMBERS-clause-read
 returns-then-count-eq-MAX_MEMBERS-clause-read g c told =
-    let place = c.in-Some.ensures.some in
+    let is = subst (λ (o : Option (List Member)). IfSome o (IsBucketFile c.bucket-n.result c.in_ok-file.file)) c.in-Some.is c.in_ok-members.ensures.some in
     let count = c.in_ok-count.ensures.value told in
     let same = g.met.F.Files.kept_map c.args.files.now c.get.new.self told c.get.ensures.kept in (
-      all_members place.0,
-      bucket_there (g.F.Files.map c.args.files.now) c.args.set (key c.args.a.now) c.bucket-n.result c.bucket-name.result c.in_ok-file.file (all_members place.0) c.bucket-n.ensures.value c.bucket-name.ensures.name (c.in_ok-file.ensures.value told) place.1,
+      c.in-Some.members,
+      bucket_there (g.F.Files.map c.args.files.now) c.args.set (key c.args.a.now) c.bucket-n.result c.bucket-name.result c.in_ok-file.file c.in-Some.members c.bucket-n.ensures.value c.bucket-name.ensures.name (c.in_ok-file.ensures.value told) is,
       (
-        sides_has c.in-Some.place.here place.0 ∙ sym c.is_some.ensures ∙ c.if-is_some.false,
+        (has_found (λ r. r.now) (key c.args.a.now) c.in-Some.members c.lookup.result c.lookup.ensures) ∙ sym c.is_some.ensures ∙ c.if-is_some.false,
         sym (ap (λ (dir : Dir). dir (count_name c.args.set)) same) ∙ count.2 ∙ ap (λ n. Some (count_text n)) c.if-count-eq-MAX_MEMBERS.true,
       ),
     )
@@ -50,25 +51,25 @@ returns-then-count-eq-MAX_MEMBERS-clause-value g c told ms is =
 
 pub note-requires : goal.note-requires
 note-requires g c =
-    let place = c.in-Some.ensures.some in
+    let is = subst (λ (o : Option (List Member)). IfSome o (IsBucketFile c.bucket-n.result c.in_ok-file.file)) c.in-Some.is c.in_ok-members.ensures.some in
     let m = member_by c.args.a.now c.args.now in
-    let all = with_member m (all_members place.0) in
-    let text : Some c.as_slice.result.now ≡ bucket_file all = ap Some (c.as_slice.ensures ∙ c.in_ok-text.ensures.text (place.0).below (place.0).above (place.0).around) ∙ sym (file_with (place.0).below (place.0).above m) ∙ sym (ap bucket_file (sides_with m c.in-Some.place.here place.0 (sym c.is_some.ensures ∙ c.if-is_some.false))) in
-    let there = subst (λ (n : ℕ). IsBucketFile n c.in_ok-file.file (all_members place.0)) c.bucket-n.ensures.value place.1 in
-    let made : IsBucketFile (bucket_of (key c.args.a.now)) (Some c.as_slice.result.now) all = subst (λ (f : Option Text). IsBucketFile (bucket_of (key c.args.a.now)) f all) (sym text) (bucket_with m c.in_ok-file.file (all_members place.0) c.in_ok-text.ensures.address c.requires there) in
+    let all = with_member m c.in-Some.members in
+    let text : Some c.as_slice.result.now ≡ bucket_file all = ap Some (c.as_slice.ensures ∙ c.in_ok-text.ensures.text) ∙ sym (file_with m c.in-Some.members) in
+    let there = subst (λ (n : ℕ). IsBucketFile n c.in_ok-file.file c.in-Some.members) c.bucket-n.ensures.value is in
+    let made : IsBucketFile (bucket_of (key c.args.a.now)) (Some c.as_slice.result.now) all = subst (λ (f : Option Text). IsBucketFile (bucket_of (key c.args.a.now)) f all) (sym text) (bucket_with m c.in_ok-file.file c.in-Some.members c.in_ok-text.ensures.address c.requires there) in
     (all, subst (λ (n : ℕ). IsBucketFile n (Some c.as_slice.result.now) all) (sym c.bucket-n.ensures.value) made)
 
 pub returns-clause-read : goal.returns-clause-read
 returns-clause-read g c told =
-    let place = c.in-Some.ensures.some in
+    let is = subst (λ (o : Option (List Member)). IfSome o (IsBucketFile c.bucket-n.result c.in_ok-file.file)) c.in-Some.is c.in_ok-members.ensures.some in
     let count = c.in_ok-count.ensures.value told in
     let same = g.met.F.Files.kept_map c.args.files.now c.get.new.self told c.get.ensures.kept in
     let m = member_by c.args.a.now c.args.now in
-    let text = ap Some (c.in_ok-text.ensures.text (place.0).below (place.0).above (place.0).around) ∙ sym (file_with (place.0).below (place.0).above m) ∙ sym (ap bucket_file (sides_with m c.in-Some.place.here place.0 (sym c.is_some.ensures ∙ c.if-is_some.false))) in (
-      all_members place.0,
-      bucket_there (g.F.Files.map c.args.files.now) c.args.set (key c.args.a.now) c.bucket-n.result c.bucket-name.result c.in_ok-file.file (all_members place.0) c.bucket-n.ensures.value c.bucket-name.ensures.name (c.in_ok-file.ensures.value told) place.1,
+    let text = ap Some c.in_ok-text.ensures.text ∙ sym (file_with m c.in-Some.members) in (
+      c.in-Some.members,
+      bucket_there (g.F.Files.map c.args.files.now) c.args.set (key c.args.a.now) c.bucket-n.result c.bucket-name.result c.in_ok-file.file c.in-Some.members c.bucket-n.ensures.value c.bucket-name.ensures.name (c.in_ok-file.ensures.value told) is,
       (
-        sides_has c.in-Some.place.here place.0 ∙ sym c.is_some.ensures ∙ c.if-is_some.false,
+        (has_found (λ r. r.now) (key c.args.a.now) c.in-Some.members c.lookup.result c.lookup.ensures) ∙ sym c.is_some.ensures ∙ c.if-is_some.false,
         (
           c.in_ok-count.count,
           omega (arith, count.1, c.if-count-eq-MAX_MEMBERS.false),
@@ -91,12 +92,12 @@ returns-in_err-count-clause-names g c =
       named = let own : OnDamaged e (λ name. is_touched c.args.set (key c.args.a.now) name ≡ true) = on_damaged e (λ name. name ≡ count_name c.args.set) (λ name. is_touched c.args.set (key c.args.a.now) name ≡ true) (count_touched c.args.set (key c.args.a.now)) failed.named in search rules;
       damaged = λ told.
           let dir = g.F.Files.map c.args.files.now in
-          let place = c.in-Some.ensures.some in
+          let is = subst (λ (o : Option (List Member)). IfSome o (IsBucketFile c.bucket-n.result c.in_ok-file.file)) c.in-Some.is c.in_ok-members.ensures.some in
           let same = g.met.F.Files.kept_map c.args.files.now c.get.new.self told c.get.ensures.kept in
-          let there = bucket_there dir c.args.set (key c.args.a.now) c.bucket-n.result c.bucket-name.result c.in_ok-file.file (all_members place.0) c.bucket-n.ensures.value c.bucket-name.ensures.name (c.in_ok-file.ensures.value told) place.1 in
+          let there = bucket_there dir c.args.set (key c.args.a.now) c.bucket-n.result c.bucket-name.result c.in_ok-file.file c.in-Some.members c.bucket-n.ensures.value c.bucket-name.ensures.name (c.in_ok-file.ensures.value told) is in
           let none = subst (λ (d : Dir). OnDamaged e (λ _. IsNoCount d c.args.set 0)) same (failed.damaged told) in
           let unread : OnDamaged e (IsUnread dir c.args.set (key c.args.a.now) false) =
-          on_both e (λ name. name ≡ count_name c.args.set) (λ _. IsNoCount dir c.args.set 0) (IsUnread dir c.args.set (key c.args.a.now) false) (unread_count dir c.args.set (key c.args.a.now) false (all_members place.0) there (sides_has c.in-Some.place.here place.0 ∙ sym c.is_some.ensures ∙ c.if-is_some.false)) failed.named none in
+          on_both e (λ name. name ≡ count_name c.args.set) (λ _. IsNoCount dir c.args.set 0) (IsUnread dir c.args.set (key c.args.a.now) false) (unread_count dir c.args.set (key c.args.a.now) false c.in-Some.members there ((has_found (λ r. r.now) (key c.args.a.now) c.in-Some.members c.lookup.result c.lookup.ensures) ∙ sym c.is_some.ensures ∙ c.if-is_some.false)) failed.named none in
           search rules;
     }
 

@@ -1,31 +1,26 @@
-use Rattle.std.proofs.Common.{◌∙◌, sym, ap, Some}
+use Rattle.std.proofs.Common.{◌∙◌, List, Option, Some, IfSome, sym, ap, subst}
 use Rattle.std.specs.Option.{option_map}
 use Rattle.ml_base.specs.Address.{key}
-use Rattle.ml_subs.specs.Reading.{as_member, all_members}
+use Rattle.ml_subs.specs.declared.member_list.Member.{Member}
+use Rattle.ml_subs.specs.Buckets.{IsBucketFile}
 use Rattle.ml_subs.proofs.Represented.{found_in_bucket}
-use Rattle.ml_subs.proofs.Answering.{sides_found, bucket_there}
+use Rattle.ml_subs.proofs.Answering.{bucket_there}
 use Rattle.ml_subs.proofs.sets.find.Goals as goal
 
-pub returns-in-Some-here-clause-read : goal.returns-in-Some-here-clause-read
-returns-in-Some-here-clause-read g c told =
-    let place = c.in-Some.ensures.some in (
-      all_members place.0,
-      bucket_there (g.F.Files.map c.args.files.now) c.args.set (key c.args.a.now) c.bucket-n.result c.bucket-name.result c.in_ok-file.file (all_members place.0) c.bucket-n.ensures.value c.bucket-name.ensures.name (c.in_ok-file.ensures.value told) place.1,
-      ap Some c.in_ok-member_from-in-Some-here.ensures ∙ sym (ap (option_map as_member) c.in-Some-here.is) ∙ sym (sides_found place.0),
-    )
+pub returns-in-Some-lookup-clause-read : goal.returns-in-Some-lookup-clause-read
+returns-in-Some-lookup-clause-read g c told =
+    let is = subst (λ (o : Option (List Member)). IfSome o (IsBucketFile c.bucket-n.result c.in_ok-file.file)) c.in-Some.is c.in_ok-members.ensures.some in
+    (c.in-Some.members, bucket_there (g.F.Files.map c.args.files.now) c.args.set (key c.args.a.now) c.bucket-n.result c.bucket-name.result c.in_ok-file.file c.in-Some.members c.bucket-n.ensures.value c.bucket-name.ensures.name (c.in_ok-file.ensures.value told) is, ap Some c.in_ok-member-in-Some-lookup.ensures ∙ sym (ap (option_map (λ r. r.now)) c.in-Some-lookup.is) ∙ c.lookup.ensures)
 
-pub returns-in-Some-here-clause-value : goal.returns-in-Some-here-clause-value
-returns-in-Some-here-clause-value g c told ms is =
-    let read = returns-in-Some-here-clause-read g c told in
+pub returns-in-Some-lookup-clause-value : goal.returns-in-Some-lookup-clause-value
+returns-in-Some-lookup-clause-value g c told ms is =
+    let read = returns-in-Some-lookup-clause-read g c told in
     read.2 ∙ sym (found_in_bucket (g.F.Files.map c.args.files.now) c.args.set ms read.0 (key c.args.a.now) is.members read.1)
 
 pub returns-clause-read : goal.returns-clause-read
 returns-clause-read g c told =
-    let place = c.in-Some.ensures.some in (
-      all_members place.0,
-      bucket_there (g.F.Files.map c.args.files.now) c.args.set (key c.args.a.now) c.bucket-n.result c.bucket-name.result c.in_ok-file.file (all_members place.0) c.bucket-n.ensures.value c.bucket-name.ensures.name (c.in_ok-file.ensures.value told) place.1,
-      sym (ap (option_map as_member) c.in-None.is) ∙ sym (sides_found place.0),
-    )
+    let is = subst (λ (o : Option (List Member)). IfSome o (IsBucketFile c.bucket-n.result c.in_ok-file.file)) c.in-Some.is c.in_ok-members.ensures.some in
+    (c.in-Some.members, bucket_there (g.F.Files.map c.args.files.now) c.args.set (key c.args.a.now) c.bucket-n.result c.bucket-name.result c.in_ok-file.file c.in-Some.members c.bucket-n.ensures.value c.bucket-name.ensures.name (c.in_ok-file.ensures.value told) is, sym (ap (option_map (λ r. r.now)) c.in-None.is) ∙ c.lookup.ensures)
 
 pub returns-clause-value : goal.returns-clause-value
 returns-clause-value g c told ms is =
