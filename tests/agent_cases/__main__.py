@@ -1,6 +1,7 @@
 """Runs the cases, a few at once."""
 
 import argparse
+import collections
 import concurrent.futures
 import functools
 import os
@@ -12,7 +13,7 @@ import compiled
 
 from . import (backscatter, beside, checking, given, histories, hosts, killed, looks, mail_in, mail_out, numbers, receivers, records, servers,
                set_up, shared, shared_by_hand, signatures, together, trouble, weeding)
-from .world import IS_UNPROVED, TOP, World, Wrong
+from .world import IS_UNPROVED, TOP, Skipped, World, Wrong
 
 AT_ONCE = 4
 # What the cases leave out over a program that was built without proof.
@@ -35,28 +36,31 @@ def cases():
 
 
 def run(name, program):
-    """What is wrong, or None, and what there is to say."""
-    world, wrong = World(program), None
+    """How a case ended, and what there is to say."""
+    world, how, said = World(program), 'ok', ''
     try:
         cases()[name](world)
         if world.end() or 'Traceback' in world.log():
-            wrong = 'the agent ended with a fault, or told one'
+            how, said = 'FAILED', 'the agent ended with a fault, or told one'
+    except Skipped as why:
+        how, said = 'skipped', str(why)
     except Wrong as why:
-        wrong = str(why)
+        how, said = 'FAILED', str(why)
     except Exception:
-        wrong = traceback.format_exc()
-    said = '\n'.join('    ' + line for line in world.log().splitlines()[-15:]) if wrong else world.note
+        how, said = 'FAILED', traceback.format_exc()
+    if how == 'FAILED':
+        said = '\n'.join([said, *('    ' + line for line in world.log().splitlines()[-15:])])
+    elif world.note:
+        said = f'{said}; {world.note}' if said else world.note
     world.close()
-    return wrong, said
+    return how, said
 
 
-def tell(name, wrong, said):
+def tell(name, how, said):
+    """Prints the line of a case, and below it what the agent said last if it failed."""
     case = cases()[name]
     about = getattr(case, 'func', case).__doc__
-    if wrong is None:
-        print(f'ok      {name}: {about}' + (f' ({said})' if said else ''), flush=True)
-    else:
-        print(f'FAILED  {name}: {about} {wrong}\n{said}', flush=True)
+    print(f'{how:<7} {name}: {about}' + (f' {said}' if said and how == 'FAILED' else f' ({said})' if said else ''), flush=True)
 
 
 def is_wanted(name):
@@ -76,17 +80,17 @@ def main():
         sys.exit(f'agent: there is no program {program}: tools/install and .ci/run prove and build it, tests/quick without proof')
     if words.long:
         killed.STRIDE[0], trouble.HELD[0], beside.MANY[0] = 1, 60, 3000
-    failed, names = 0, [name for name in cases() if words.k in name and (words.k or is_wanted(name))]
+    ended, names = collections.Counter(), [name for name in cases() if words.k in name and (words.k or is_wanted(name))]
     with compiled.kept(), servers.made_once(), concurrent.futures.ProcessPoolExecutor(AT_ONCE) as pool:
         runs = {pool.submit(run, name, program): name for name in names}
         for done in concurrent.futures.as_completed(runs):
-            wrong, said = done.result()
-            failed += wrong is not None
-            tell(runs[done], wrong, said)
+            how, said = done.result()
+            ended[how] += 1
+            tell(runs[done], how, said)
     if IS_UNPROVED:
         print(f'skipped {LEFT_OUT}: over a program that was built without proof they take minutes')
-    print(f'{len(names) - failed} passed, {failed} failed')
-    sys.exit(failed > 0)
+    print(f'{ended["ok"]} passed, {ended["FAILED"]} failed, {ended["skipped"]} skipped')
+    sys.exit(ended['FAILED'] > 0)
 
 
 if __name__ == '__main__':

@@ -1,14 +1,14 @@
 """`--check`, the words of the command line, and what mypy says of the agent."""
 
-import importlib.util
 import os
 import pathlib
-import shutil
 import subprocess
 import sys
 import threading
 
-from .world import TOP, check, same
+import needed
+
+from .world import TOP, Skipped, check, same
 
 sys.path.insert(0, str(TOP / 'agent'))
 import ezmlm_agent  # noqa: E402
@@ -64,8 +64,7 @@ def case_check_by_another_user(world):
     """--check by another user than the lists' says that once, and not of each file."""
     world.list()
     if os.geteuid() != 0:
-        world.note = 'not tried, as only root can be another user'
-        return
+        raise Skipped('only root can be another user')
     for path in (world.place / 'lists', *(world.place / 'lists').rglob('*')):
         os.chown(path, 1, 1)
     status, said = checked(world)
@@ -100,11 +99,9 @@ def case_types(world):
     files = sorted((TOP / 'agent/ezmlm_agent').glob('*.py'))
     long = {path.name: lines for path in files if (lines := len(path.read_text().splitlines())) >= 320}
     same(long, {}, 'files that are too long')
-    if shutil.which('mypy') is None:
-        world.note = 'types were not checked, as there is no mypy'
-        return
-    # psycopg is needed only by lists on several hosts, and may be missing.
-    more = [] if importlib.util.find_spec('psycopg') else ['--ignore-missing-imports', '--no-warn-return-any']
-    done = subprocess.run(['mypy', '--strict', *more, '--cache-dir', str(world.place / 'mypy'), '-p', 'ezmlm_agent'], capture_output=True,
+    # What is said of psycopg's types can't be told without it.
+    if lacking := needed.lacking('mypy', 'python3-psycopg'):
+        raise Skipped(lacking)
+    done = subprocess.run(['mypy', '--strict', '--cache-dir', str(world.place / 'mypy'), '-p', 'ezmlm_agent'], capture_output=True,
                           text=True, cwd=TOP / 'agent', check=False)
     same(done.returncode, 0, done.stdout + done.stderr)

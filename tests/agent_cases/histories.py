@@ -7,7 +7,7 @@ import sys
 import time
 
 from . import servers
-from .world import IS_UNPROVED, TOP, check, post, same
+from .world import IS_UNPROVED, TOP, Skipped, check, post, same
 
 sys.path.insert(0, str(TOP / 'agent'))
 DAY = 86400
@@ -21,11 +21,9 @@ def spell(word):
 
 @contextlib.contextmanager
 def histories(world, hosts=('one', 'two'), many=1, standby='none', takeover=5):
-    """A history for each host over servers of their own, or nothing if PostgreSQL isn't there."""
+    """A history for each host over servers of their own. Without PostgreSQL the case is skipped."""
     if (lacking := servers.lacking()) is not None:
-        world.note = f'not tried, as {lacking} is not there'
-        yield None, None
-        return
+        raise Skipped(lacking)
     from ezmlm_agent import history, lines
     from ezmlm_agent import servers as connections
     with servers.Servers(many=many) as those:
@@ -69,8 +67,6 @@ ROWS = [
 def case_history_rows(world):
     """Numbers are a row without gaps, and a mail or an operator's item that comes again has the number that it had."""
     with histories(world) as (_, pasts):
-        if pasts is None:
-            return
 
         async def ask():
             for past in pasts:
@@ -83,8 +79,6 @@ def case_history_rows(world):
 def case_history_at_once(world):
     """What many hosts put in at once gets numbers in a row, each its own."""
     with histories(world, [f'host{n}' for n in range(4)], takeover=60) as (those, pasts):
-        if pasts is None:
-            return
 
         async def ask():
             for past in pasts:
@@ -99,8 +93,6 @@ def case_history_at_once(world):
 def case_history_forgets(world):
     """What all hosts have answered and is old is removed, and the floor rises; what a host still wants stays."""
     with histories(world) as (those, pasts):
-        if pasts is None:
-            return
         one, two = pasts
 
         async def ask():
@@ -128,8 +120,6 @@ def case_history_forgets(world):
 def case_history_confirmed(world):
     """Nothing is told before a second server has it on its disk, be it put in now, or read: not what another host put in either."""
     with histories(world, many=3, standby='quorum', takeover=2) as (those, pasts):
-        if pasts is None:
-            return
         from ezmlm_agent import servers as connections
         one, two = pasts
 
@@ -151,8 +141,6 @@ def case_history_confirmed(world):
 def case_history_apart(world):
     """Of calls that go over one connection one that fails takes no other along, and leaves nothing of itself."""
     with histories(world) as (those, pasts):
-        if pasts is None:
-            return
         one, _ = pasts
 
         async def ask():
@@ -177,8 +165,6 @@ def case_history_apart(world):
 def case_history_of_a_lost_host(world):
     """A server asks a host that says nothing whether it is still there, also in the middle of a call, so that its locks go within `takeover`."""
     with histories(world) as (those, found):
-        if those is None:
-            return
         with contextlib.closing(found[0].lines.servers.connect()) as connection:
             rows = [connection.execute(f'SHOW tcp_keepalives_{name}').fetchone() for name in ('idle', 'interval', 'count')]
         idle, interval, count = (int(value) for value, in rows)
@@ -188,8 +174,6 @@ def case_history_of_a_lost_host(world):
 def case_history_of_another(world):
     """A copy that can't be one of the history's list is refused in words."""
     with histories(world) as (those, pasts):
-        if pasts is None:
-            return
         from ezmlm_agent import servers as connections
 
         async def ask():
@@ -227,8 +211,6 @@ def case_history_of_another(world):
 def case_history_known(world):
     """The mails and copies that the first host knew of its own count on; those that another one knew don't."""
     with histories(world) as (_, pasts):
-        if pasts is None:
-            return
 
         async def ask():
             one, two = pasts

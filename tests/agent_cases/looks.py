@@ -8,10 +8,9 @@ import sys
 
 from .checking import checked
 from .names import Names
-from .records import library
 from .signatures import key
 from .sink import Sink
-from .world import HOST, LONG, TOP, check, same, until
+from .world import HOST, LONG, TOP, Skipped, check, library, same, until
 
 sys.path.insert(0, str(TOP / 'agent'))
 from ezmlm_agent import receivers, resolver, settings, signing  # noqa: E402
@@ -116,14 +115,12 @@ def refuses(asks):
 
 def case_resolver(world):
     """--check's resolver answers each kind of question, none twice, and no more than a few."""
-    if (dnspython := library(world, 'dns.resolver')) is None:
-        return
+    dnspython = library('python3-dnspython', 'dns.resolver')
     try:
         names = Names({(HOST, 'TXT'): ['one', 'two" "halves'], (HOST, 'A'): ['192.0.2.1'], (HOST, 'AAAA'): ['2001:db8::1'],
                        (HOST, 'MX'): ['10 mx.ex.org.'], ('1.2.0.192.in-addr.arpa', 'PTR'): ['mx.ex.org.']})
     except OSError as error:
-        world.note = f'not tried, as there is no loopback: {error}'
-        return
+        raise Skipped(f'there is no loopback: {error}') from error
     seconds, read = (resolver.EACH, resolver.SECONDS), dnspython.Resolver.read_resolv_conf
     resolver.EACH = resolver.SECONDS = LONG
     try:
@@ -193,9 +190,7 @@ def nobody_answers(world):
 
 def case_check_asks(world):
     """--check asks a resolver, and a mail goes through the transfer agent and back; the list has none of it."""
-    dkimpy, pyspf = library(world, 'dkim'), library(world, 'spf')
-    if dkimpy is None or pyspf is None or library(world, 'dns.resolver') is None:
-        return
+    dkimpy, pyspf, _ = library('python3-dkim', 'dkim'), library('python3-spf', 'spf'), library('python3-dnspython', 'dns.resolver')
     private, public = key(world)
     zone = {(HOST, 'TXT'): ['v=spf1 ip4:192.0.2.1 -all'], (f'_dmarc.{HOST}', 'TXT'): ['v=DMARC1; p=none'],
             (f's._domainkey.{HOST}', 'TXT'): [public(b'')[:200].decode() + '" "' + public(b'')[200:].decode()]}
@@ -205,8 +200,7 @@ def case_check_asks(world):
         names, late = Names(zone), Names(None)
     except OSError as error:
         relay.stop()
-        world.note = f'not tried, as there is no loopback: {error}'
-        return
+        raise Skipped(f'there is no loopback: {error}') from error
     try:
         world.rows.update(sends_from='192.0.2.1', resolver=names.where)
         world.list()

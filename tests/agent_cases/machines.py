@@ -9,7 +9,7 @@ import subprocess
 import threading
 
 from . import servers
-from .world import HOST, LISTENS, LONG, Client, check, held, post, until
+from .world import HOST, LISTENS, LONG, Client, Skipped, check, held, post, until
 
 NAMES = 'one', 'two', 'three'
 
@@ -75,11 +75,9 @@ class Machine:
 
 @contextlib.contextmanager
 def machines(world, many=3, kept=1, standby='none', names=NAMES):
-    """Hosts with a copy of the list cats each, over so many servers. Nothing if PostgreSQL isn't there."""
+    """Hosts with a copy of the list cats each, over so many servers. Without PostgreSQL the case is skipped."""
     if (lacking := servers.lacking()) is not None:
-        world.note = f'not tried, as {lacking} is not there'
-        yield None, None
-        return
+        raise Skipped(lacking)
     with servers.Servers(many=kept) as those:
         first = world.list()
         found = [Machine(world, name, those.string(), standby) for name in names[:many]]

@@ -1,10 +1,9 @@
 """What receivers make of a host, as `--check` tells it: SPF, DMARC and DKIM, over answers of a resolver."""
 
-import importlib
 import sys
 
 from .signatures import key
-from .world import TOP, check, same
+from .world import TOP, check, library, same
 
 sys.path.insert(0, str(TOP / 'agent'))
 from ezmlm_agent import receivers, records, resolver, settings, signing  # noqa: E402
@@ -24,15 +23,6 @@ def asks(rows):
     return ask
 
 
-def library(world, name):
-    """A module, or None after a note."""
-    try:
-        return importlib.import_module(name)
-    except ImportError:
-        world.note = f'not all was tried, as there is no {name}'
-        return None
-
-
 ZONE = {('example.com', 'A'): ['192.0.2.10', '192.0.2.11'], ('example.com', 'MX'): [(10, 'mail-a.example.com'), (20, 'mail-b.example.com')],
         ('mail-a.example.com', 'A'): ['192.0.2.129'], ('mail-b.example.com', 'A'): ['192.0.2.130'],
         ('example.org', 'MX'): [(10, 'mail-c.example.org')], ('mail-c.example.org', 'A'): ['192.0.2.140']}  # RFC 7208 A
@@ -47,8 +37,7 @@ SPF = [  # RFC 7208 A.1: a record, and addresses for which it passes and fails
 
 def case_spf_passes(world):
     """--check's SPF of RFC 7208's own examples passes and fails as they say."""
-    if (pyspf := library(world, 'spf')) is None:
-        return
+    pyspf = library('python3-spf', 'spf')
     for record, passes, fails in SPF:
         ask = asks({**ZONE, ('example.com', 'TXT'): [record.encode()]})
         for address in passes + fails:
@@ -60,7 +49,7 @@ def case_spf_passes(world):
 
 def case_spf_told(world):
     """--check tells of an SPF record that is missing, there twice, wrong, too soft or late, and of what it lacks."""
-    pyspf = library(world, 'spf') or Untold('python3-spf isn\'t installed')
+    pyspf = library('python3-spf', 'spf')
     here = Senders(['192.0.2.1', '2001:db8::1'], 'this host\'s own')
     no_library, nobody = Untold('python3-spf isn\'t installed'), Untold('the DNS has no address of mx (name): say sends_from')
     rows = [([], here, None, [('it has no SPF record', True)]),
@@ -69,7 +58,7 @@ def case_spf_told(world):
             ([b'v=spf1 -all'], here, no_library, [('its SPF record is \'v=spf1 -all\'; whether that covers the transfer agent can\'t be told: '
                                                    'python3-spf isn\'t installed', False)]),
             ([b'v=spf1 -all'], nobody, None, [('its SPF record is \'v=spf1 -all\'; whether that covers the transfer agent can\'t be told: '
-                                               + ('the DNS has no address of mx' if not isinstance(pyspf, Untold) else 'python3-spf'), False)]),
+                                               'the DNS has no address of mx', False)]),
             ([b'v=spf1 ip4:192.0.2.1 ~all'], here, None, [('SPF passes for mail from 192.0.2.1 (this host\'s own)', False),
                                                           ('SPF says softfail for mail from 2001:db8::1', True)]),
             ([b'v=spf1 ?all'], here, None, [('SPF says neutral', True)] * 2),
@@ -78,8 +67,6 @@ def case_spf_told(world):
             ([b'v=spf1 ipv4:192.0.2.1'], here, None, [('its SPF record \'v=spf1 ipv4:192.0.2.1\' can\'t be evaluated: ', True)] * 2),
             ([b'v=spf1 \xff\r\n\x1b[2J' + b'a' * 300], here, no_library, [('its SPF record is \'v=spf1 \\udcff\\r\\n\\x1b[2Jaaa', False)])]
     for texts, sent_from, lacking, wanted in rows:
-        if isinstance(pyspf, Untold) and lacking is None and wanted[0][0].startswith(('SPF', 'whether', 'its SPF record \'')):
-            continue
         ask = asks({('ex.org', 'TXT'): texts, ('x.ex.org', 'A'): LATE, ('x.ex.org', 'AAAA'): LATE})
         found = records.spf('ex.org', 'mx.ex.org', sent_from, ask, lacking or pyspf)
         same(len(found), len(wanted), f'{texts}: {found}')
@@ -157,8 +144,7 @@ def case_dmarc(world):
 
 def case_signed(world):
     """--check tells of a signature that is missing, another's, without a key, or broken, and of one that holds."""
-    if (dkimpy := library(world, 'dkim')) is None:
-        return
+    dkimpy = library('python3-dkim', 'dkim')
     private, public = key(world)
     mail = signing.post(b'cats', b'lists.ex.org', '0' * 16)
 

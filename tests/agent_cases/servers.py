@@ -17,6 +17,8 @@ import time
 from collections.abc import Callable, Iterator, Sequence
 from typing import Any
 
+import needed
+
 USER = 'postgres'
 LONG = 120  # seconds after which what has to come is given up. Nothing else depends on time, as a machine may be slow
 DATABASE = ROLE = 'ezmlm'  # what `string` names. The role owns the database, and may do no more
@@ -45,14 +47,8 @@ def binaries() -> pathlib.Path | None:
 
 
 def lacking() -> str | None:
-    """What isn't installed that the servers and their clients take, or None."""
-    if binaries() is None:
-        return 'postgresql'
-    try:
-        import psycopg  # noqa: F401
-    except ImportError:
-        return 'python3-psycopg'
-    return None
+    """What isn't installed that the servers and their clients take, as a sentence, or None."""
+    return needed.lacking('postgresql', 'python3-psycopg')
 
 
 def free_ports(many: int) -> list[int]:

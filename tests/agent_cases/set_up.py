@@ -5,8 +5,10 @@ import shutil
 import socket
 import subprocess
 
+import needed
+
 from .sink import Sink
-from .world import HASTY, HOST, TOP, Client, check, post, same
+from .world import HASTY, HOST, TOP, Client, Skipped, check, post, same
 
 def case_by_itself(world):
     """Every hour there is a timed run of every list, and what somebody else gave the list to send goes out within a minute."""
@@ -29,8 +31,7 @@ def case_ports(world):
     try:
         ports = free_port(), free_port()
     except OSError as error:
-        world.note = f'not tried, as there is no loopback: {error}'
-        return
+        raise Skipped(f'there is no loopback: {error}') from error
     world.list()
     world.sink.stop()
     world.sink = Sink(('127.0.0.1', ports[1]))
@@ -43,12 +44,11 @@ def case_ports(world):
 
 def case_unit(world):
     """The units for systemd are in order, and keep away what the agent has no need of."""
-    if shutil.which('systemd-analyze') is None:
-        world.note = 'not tried, as there is no systemd-analyze'
-        return
+    if lacking := needed.lacking('systemd'):
+        raise Skipped(lacking)
     units = [world.place / f'ezmlm-agent.{kind}' for kind in ('service', 'socket')]
     for unit in units:
-        unit.write_text((TOP / 'agent' / unit.name).read_text().replace('/usr/local/lib/ezmlm', str(TOP / 'agent')))
+        unit.write_text((TOP / 'agent' / unit.name).read_text().replace('/usr/local/lib/ezmlm', str(TOP / 'agent').replace(' ', r'\x20')))
     for words in (['verify', *units], ['security', '--offline=true', '--threshold=20', units[0]]):
         done = subprocess.run(['systemd-analyze', *words], capture_output=True, text=True, check=False)
         same((done.returncode, done.stderr), (0, ''), words[0])

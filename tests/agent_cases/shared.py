@@ -12,8 +12,6 @@ from .world import HASTY, IS_UNPROVED, MEMBERS, begins, check, same, until
 def case_shared(world):
     """Three hosts with one history: what comes to any of them is posted once on each, in one order, and goes out once."""
     with machines(world) as (those, hosts):
-        if hosts is None:
-            return
         for each in hosts:
             each.begin()
         for n in range(1, 10):
@@ -31,8 +29,6 @@ def case_shared(world):
 def case_shared_takes_over(world):
     """The host that hands on is killed, or stands still for longer than the others wait: another one takes over, and no copy is lost."""
     with machines(world, 2) as (those, hosts):
-        if hosts is None:
-            return
         for each in hosts:
             each.begin()
         same(hosts[0].post(1), '250 2.0.0 posted 1', 'a post')
@@ -60,8 +56,6 @@ def case_shared_takes_over(world):
 def case_shared_behind(world):
     """A host that takes over, and whose copy is behind, hands nothing on that was before: it first gives its list what the history has."""
     with machines(world, 2) as (those, hosts):
-        if hosts is None:
-            return
         one, two = hosts
         world.sink.defer = set(MEMBERS)
         for each in hosts:
@@ -87,8 +81,6 @@ def case_shared_behind(world):
 def case_shared_servers(world):
     """Three servers: while the first one is gone mail waits, and when another takes its place all goes on. Nothing is lost, and nothing twice."""
     with machines(world, 2, 3, 'quorum') as (those, hosts):
-        if hosts is None:
-            return
         for each in hosts:
             each.begin()
         taken, put_off, stop = {}, [], threading.Event()
@@ -123,8 +115,6 @@ def case_shared_servers(world):
 def case_shared_from_alone(world):
     """A host that served its list alone goes on with a history, and back: what was posted and handed on before counts as before."""
     with machines(world, 1) as (those, hosts):
-        if hosts is None:
-            return
         host, = hosts
         shared = dict(host.rows)
         alone = {name: value for name, value in shared.items() if name not in ('history', 'host', 'standby', 'takeover')}
@@ -154,8 +144,6 @@ def case_shared_from_alone(world):
 def case_shared_compared(world):
     """After each timed run the copies are compared. A host whose copy is another one than the others' isn't served, and says so."""
     with machines(world) as (those, hosts):
-        if hosts is None:
-            return
         for each in hosts:
             each.begin(words=HASTY)
         one, two, three = hosts

@@ -19,8 +19,6 @@ UNANSWERED = 'ezmlm-agent: the items are in the history of cats, and no host has
 def case_shared_given(world):
     """--give: items of operators go to each copy, count once by their numbers, and are answered as the program answers them."""
     with machines(world, 2) as (those, hosts):
-        if hosts is None:
-            return
         for each in hosts:
             each.begin()
         one, two = hosts
@@ -45,8 +43,6 @@ def case_shared_given(world):
 def case_shared_configured(world):
     """--configure: a configuration is laid into each copy at one place; one that is changed by hand on one host isn't served there."""
     with machines(world, 2) as (those, hosts):
-        if hosts is None:
-            return
         for each in hosts:
             each.begin()
         one, two = hosts
@@ -98,8 +94,6 @@ def status_says(host, level, *wanted):
 def case_shared_status(world):
     """--status tells where each host stands, who hands on, and what waits, with the status of a monitor's plugin; --forget-host forgets one."""
     with machines(world) as (those, hosts):
-        if hosts is None:
-            return
         one, two, three = hosts
         status, said = one.command('--status')
         check(status == 2 and said.startswith('EZMLM-AGENT CRITICAL - ') and 'can\'t be reached' in said, said)
@@ -176,8 +170,6 @@ def case_shared_words(world):
 def case_shared_refused(world):
     """Servers that can't keep a history, and a history that isn't this agent's, are refused in words at the start and by --check."""
     with machines(world, 1) as (those, hosts):
-        if hosts is None:
-            return
         host, = hosts
         first = those.all[0]
 
@@ -218,8 +210,6 @@ def case_shared_refused(world):
 def case_shared_one_name(world):
     """A second host of the same name ends, and says so; the first one goes on."""
     with machines(world, 2) as (those, hosts):
-        if hosts is None:
-            return
         one, two = hosts
         two.rows['host'] = 'one'
         one.begin()
@@ -232,8 +222,6 @@ def case_shared_one_name(world):
 def case_shared_address(world):
     """A list whose history is another one's isn't served there; a host whose folder is gone puts its mail off."""
     with machines(world, 2) as (those, hosts):
-        if hosts is None:
-            return
         one, two = hosts
         one.begin()
         same(one.post(1), '250 2.0.0 posted 1', 'a post')

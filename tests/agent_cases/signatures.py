@@ -2,8 +2,10 @@
 
 import subprocess
 
+import needed
+
 from .receivers import elements, section
-from .world import HOST, check, same
+from .world import HOST, Skipped, check, library, same
 
 from ezmlm_agent import fields
 
@@ -31,6 +33,8 @@ LIST_ID, ALWAYS = {'covers an absent List-Id'}, set(WRITTEN)
 
 def key(world):
     """A private key, and what the resolver says of it."""
+    if lacking := needed.lacking('openssl'):
+        raise Skipped(lacking)
     path = world.place / 'key.pem'
     subprocess.run(['openssl', 'genrsa', '-out', path, '2048'], check=True, stderr=subprocess.DEVNULL)
     public = subprocess.run(['openssl', 'rsa', '-in', path, '-pubout'], capture_output=True, check=True).stdout.splitlines()[1:-1]
@@ -48,11 +52,7 @@ def sent(world, name, mail):
 
 def case_signatures(world):
     """Writers' signatures survive as docs/RECEIVERS.md has it."""
-    try:
-        import dkim
-    except ImportError:
-        world.note = 'not tried, as python3-dkim is not there'
-        return
+    dkim = library('python3-dkim', 'dkim')
     private, resolver = key(world)
     for letters, survive in SURVIVE.items():
         world.run(letters, 'make', f'-{letters}', '--prefix', '[cats]', '--key', '0' * 64, 'cats', HOST, 'owner@m.net')

@@ -49,8 +49,6 @@ async def gathered(*calls):
 def case_history_together(world):
     """Calls for several lists are one transaction; each list's row has its own numbers, and is told its own items and copies."""
     with histories(world) as (those, pasts):
-        if pasts is None:
-            return
         one, two = pasts
 
         async def ask():
@@ -79,8 +77,6 @@ def case_history_together(world):
 def case_history_together_fails(world):
     """Of calls that are one transaction those that fail take no other along, and leave nothing of themselves."""
     with histories(world) as (those, pasts):
-        if pasts is None:
-            return
         from ezmlm_agent import servers as connections
         one, _ = pasts
 
@@ -116,8 +112,6 @@ def case_history_together_fails(world):
 def case_history_together_held(world):
     """Lists' rows that somebody holds for long hold up no other list, and their own calls are made when they are free."""
     with histories(world, takeover=30) as (those, pasts):
-        if pasts is None:
-            return
         one, _ = pasts
         holds, over = threading.Event(), threading.Event()
 

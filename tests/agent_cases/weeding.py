@@ -5,7 +5,7 @@ import subprocess
 import sys
 
 from . import corpora
-from .world import HOST, TOP, begins, check, post, same, until
+from .world import HOST, TOP, Skipped, begins, check, post, same, until
 
 sys.path.insert(0, str(TOP / 'agent'))
 from ezmlm_agent import weed  # noqa: E402
@@ -133,16 +133,19 @@ def case_weed_rows(world):
 
 def case_weed_corpora(world):
     """Of the bounces in Debian's corpora none is weeded, and of their delays and automatic answers all except some that are named."""
+    absent = []
     for name, fetch in (('flufl.bounce', corpora.flufl), ('BounceParser', corpora.bounceparser)):
         try:
             mails = corpora.mails(name, fetch)
         except corpora.Absent as why:
-            world.note += f'{name} was not tried: {why}. '
+            absent.append(f'{name}: {why}')
             continue
         found = {file: verdict for file, mail in mails.items() if (verdict := weed.verdict(mail, weed.Place.BOUNCES))}
         same(found, WEEDED[name], name)
         check(TAKEN[name] <= mails.keys() - found.keys(), f'{name}: {sorted(TAKEN[name] - mails.keys())} is not there')
         world.note += f'{name}: {len(mails)} mails, {len(found)} weeded, {len(TAKEN[name])} delays and answers taken. '
+    if absent:
+        raise Skipped('; '.join(absent))
 
 
 def bounced(world, kind='bounce'):

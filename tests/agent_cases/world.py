@@ -3,9 +3,11 @@
 import contextlib
 import errno
 import fcntl
+import importlib
 import os
 import pathlib
 import re
+import shlex
 import shutil
 import signal
 import socket
@@ -14,6 +16,8 @@ import subprocess
 import tempfile
 import threading
 import time
+
+import needed
 
 from .sink import Sink
 
@@ -155,7 +159,7 @@ class World:
     def stands_in(self):
         """Gives the agent a program that fails as files in this folder tell it."""
         self.rows['program'] = self.place / 'program'
-        self.rows['program'].write_text(f'#!/bin/sh\nexec /usr/bin/python3 {STAND_IN} {self.place} {self.program} "$@"\n')
+        self.rows['program'].write_text(f'#!/bin/sh\nexec /usr/bin/python3 {shlex.join(map(str, (STAND_IN, self.place, self.program)))} "$@"\n')
         self.rows['program'].chmod(0o755)
 
     # Lists.
@@ -251,8 +255,19 @@ class World:
         return int(re.search(r'VmRSS:\s*(\d+)', pathlib.Path(f'/proc/{self.agent.pid}/status').read_text())[1]) // 1024
 
 
+class Skipped(Exception):
+    """Why a case can't be tried here."""
+
+
 class Wrong(Exception):
     """What a case found."""
+
+
+def library(package, name):
+    """A package's module. Without it the case is skipped."""
+    if lacking := needed.lacking(package):
+        raise Skipped(lacking)
+    return importlib.import_module(name)
 
 
 def check(holds, why):

@@ -57,7 +57,7 @@ def main() -> int:
             how, why = done.result()
             ended.append(how)
             print(f'{how:<7} {runs[done]}: {cases()[runs[done]].__doc__}' + (f' {why}' if why else ''), flush=True)
-    print(f'{len(names) - ended.count("FAILED")} passed, {ended.count("FAILED")} failed')
+    print(f'{ended.count("ok")} passed, {ended.count("FAILED")} failed, {ended.count("skipped")} skipped')
     return int('FAILED' in ended)
 
 

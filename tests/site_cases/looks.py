@@ -59,7 +59,9 @@ def case_valid(world: World) -> None:
         holds(f'{name}: a link has no text', all(texts))
         holds(f'{name}: inline style or handler', not any(key.startswith('on') or key == 'style' for element in root.iter() for key in element.attrib))
     tidy = shutil.which('tidy')
-    for name in names if tidy else ():
+    if tidy is None:
+        raise Skipped('tidy isn\'t installed: the rest holds')
+    for name in names:
         done = subprocess.run([str(tidy), '-errors', '-quiet', '-utf8', '--mute', 'PROPRIETARY_ATTRIBUTE', '--warn-proprietary-attributes', 'no', world.web / name],
                               capture_output=True, text=True, check=False)
         holds(f'tidy of {name}: {done.stderr[:300]}', not done.stderr.strip())
