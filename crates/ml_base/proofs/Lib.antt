@@ -23,4 +23,6 @@ pub mod AddressParts
 pub mod KeptAddresses
 pub mod DamagedNames
 pub mod ReadingLemmas
+pub mod LookupLaws
+pub mod LookupCalls
 mod Examples
