@@ -11,7 +11,7 @@ import sys
 from collections.abc import Callable
 from dataclasses import dataclass
 
-from . import lists, members, metrics, moderating, monitoring, options, rebuild, texts, waiting
+from . import lists, members, metrics, moderating, monitoring, options, rebuild, scrub, texts, waiting
 from .lists import MEMORY, NO_PERMISSION, USAGE, MailingList, Refused, Said
 
 VERSION = 'ezmlm-admin 0.1'
@@ -32,9 +32,11 @@ WORDS: dict[str, tuple[str, int, int, str, Callable[..., Said]]] = {
 MONITORS: dict[str, tuple[str, Callable[..., Said]]] = {
     'watch': ('a line and a status for a monitor', monitoring.watch),
     'metrics': ('what Prometheus asks for', metrics.metrics),
+    'scrub': ('which files changed although no run of the program wrote them, by sums of the last time; --repair COPY takes them from a copy '
+              'of the list, and --anew takes all as they are', scrub.scrub),
 }
 HELP = '''usage: ezmlm-admin [--json] [--program PATH] FOLDER WORD ..
-       ezmlm-admin [--json] [--program PATH] watch | metrics LISTS ..
+       ezmlm-admin [--json] [--program PATH] watch | metrics | scrub LISTS ..
 
 FOLDER is a list's folder. Run it as the user that the list belongs to.
 

@@ -10,7 +10,7 @@ from dataclasses import dataclass, field
 
 from ezmlm_agent import folder as folders
 
-from . import files, texts
+from . import files, sums, texts
 from .config import configuration
 from .lists import DISK, Busy, MailingList, Refused, Said, content, opened
 
@@ -107,6 +107,8 @@ def faults(one: Seen, now: float) -> Iterator[tuple[int, str]]:
     for name, moment, what in oldest:
         if moment is not None and (status := above(now - moment, LIMITS[name])):
             yield status, f'{what} {texts.age(now - moment)} old'
+    for is_bad, what in sums.faults(one.folder, now):
+        yield (CRITICAL if is_bad else WARNING), what
     if one.log_bytes > 1 and (status := above(one.log_age, LIMITS['log'])):
         yield status, f'the log has {one.log_bytes} bytes since {texts.age(one.log_age)}: a run was stopped, or hangs'
     for what, free, size in (('space', *one.space[:2]), ('inodes', *one.space[2:])):

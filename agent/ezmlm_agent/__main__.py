@@ -13,7 +13,7 @@ import sys
 from collections.abc import Callable, Iterable
 from typing import TYPE_CHECKING, NoReturn, TextIO
 
-from . import VERSION, check, listening, lists, lmtp, mailing, mails, policy, program, settings, smtp, status, wire
+from . import VERSION, check, listening, lists, lmtp, mailing, mails, policy, program, room, settings, smtp, status, wire
 
 if TYPE_CHECKING:
     from . import hosts
@@ -41,7 +41,7 @@ class Agent:
         size = chosen.memory << 20
         self.shared = mails.Shared(chosen, program.Program(chosen.program, chosen.runs), self.exchange, wire.Room(size), wire.Room(size))
         self.lists = lists.Lists(chosen, self.take_up)
-        self.server = lmtp.Server(chosen.name, self.lists.find, size, chosen.replies)
+        self.server = lmtp.Server(chosen.name, self.lists.find, size, chosen.replies, room.Rooms(chosen))
         self.policy = policy.Policy(self.lists.find)
         self.listener = listening.Listener()
         self.ended = asyncio.Event()

@@ -5,7 +5,7 @@ import logging
 import re
 from collections.abc import Awaitable, Callable
 
-from . import lists, program, refusals, replies, signing, wire
+from . import lists, program, refusals, replies, room, signing, wire
 
 log = logging.getLogger('ezmlm-agent')
 LONGEST_MAIL = 33_554_432  # of a message, with LF at its lines' ends
@@ -24,8 +24,9 @@ Find = Callable[[bytes], Awaitable[lists.Named | None]]
 class Server:
     """What all connections share: the lists, and how much mail may wait in memory."""
 
-    def __init__(self, name: str, find: Find, memory: int, answers: int) -> None:
+    def __init__(self, name: str, find: Find, memory: int, answers: int, rooms: room.Rooms) -> None:
         self.name, self.find, self.room, self.replies = name, find, wire.Room(memory), replies.Replies(answers)
+        self.rooms = rooms
         self.stopping = False
         self.sessions: set[asyncio.Task[None]] = set()
         self.answering: set[asyncio.Task[None]] = set()
@@ -138,6 +139,8 @@ class Session:
             return await self.say(f'451 4.3.0 {error}')
         if found is None:
             return await self.say('550 5.1.1 There is no list of this address.')
+        if await self.server.rooms.lacks(found.list.folder, found.list.threads):
+            return await self.say(room.FULL)
         if replies.is_answered(found.rest) and self.sender:
             if not self.server.replies.take(self.sender):
                 return await self.say(OFTEN)

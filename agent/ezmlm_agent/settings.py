@@ -73,6 +73,8 @@ class Settings:
     connections: int = setting(int, 8)          # to the transfer agent, at once
     runs: int = setting(int, 4)                 # of the program, at once
     memory: int = setting(int, 128)             # MiB of mail that wait at once, and as many that are handed on
+    reserve: int = setting(int, 80)             # MiB of a list's disk below which mail is put off; ten times what a log has at most
+    reserve_inodes: int = setting(int, 2000)    # and inodes
     keep_days: int = setting(int, 15)           # how long a mail may come again: the transfer agent's queue lifetime and a margin
     patience: int = setting(int, 30)            # seconds after which a mail that the list hasn't answered is put off
     weed: bool = setting(is_yes, True)          # whether mail that a machine sent is kept from return addresses and requests
@@ -127,8 +129,9 @@ def check(chosen: Settings) -> None:
         raise ValueError('history and host belong together: with history each host has a name of its own' if chosen.history else
                          'host is how this host is called among those that have the same history, and there is no history')
     endpoint(chosen.mta)
-    if chosen.replies < 0:
-        raise ValueError('replies is below 0')
+    for name in ('replies', 'reserve', 'reserve_inodes'):
+        if getattr(chosen, name) < 0:
+            raise ValueError(f'{name} is below 0')
     for address in (chosen.listen, chosen.policy):
         if address and not is_near(address):
             raise ValueError(f'{address} is not loopback, and whoever reaches the agent can give it mail')

@@ -9,13 +9,13 @@ import traceback
 
 import compiled
 
-from . import asked, changed, killed, made_anew, monitored, rebuilt, rows, shell
+from . import asked, changed, killed, made_anew, monitored, rebuilt, rows, scrubbed, shell
 from .world import IS_UNPROVED, TOP, Skipped, World, Wrong
 
 AT_ONCE = 4
 # The cases that don't run over a program that was built without proof: there they take minutes.
 LONG_ONES = 'killed_with_an_index_gone', 'killed_with_all_damaged', 'killed_twice', 'files_cut', 'bytes_turned', 'bytes_turned_otherwise'
-MODULES = killed, rebuilt, made_anew, asked, changed, monitored, rows, shell  # those that take longest first
+MODULES = killed, scrubbed, rebuilt, made_anew, asked, changed, monitored, rows, shell  # those that take longest first
 
 
 def cases():
