@@ -25,7 +25,7 @@ WORDS: dict[str, tuple[str, int, int, str, Callable[..., Said]]] = {
     'reject': ('TICKET', 1, 1, 'gives a held post back to its author', moderating.reject),
     'queue': ('', 0, 0, 'what is still to be sent', waiting.queue),
     'digest': ('', 0, 0, 'what the next digest has, and when it is due', waiting.digest),
-    'options': ('[LETTERS [--prefix TEXT] [--max BYTES] [--owner ADDRESS] [--anyway]]', 0, 99, 'tells the options, or changes them',
+    'options': ('[+LETTERS | -LETTERS] [--prefix TEXT] [--max BYTES] [--owner ADDRESS] [--anyway]', 0, 99, 'tells the options, or changes them',
                 options.options),
     'rebuild': ('[NEW]', 0, 1, 'writes the archive\'s num, indexes and threads anew, or the whole list in the folder NEW', rebuild.rebuild),
 }

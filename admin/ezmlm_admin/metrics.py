@@ -4,11 +4,12 @@ from __future__ import annotations
 
 from collections.abc import Iterator, Sequence
 
-from .lists import SETS, Said
+from .config import configuration
+from .lists import SETS, Damaged, Said, content
 from .monitoring import Seen, all_seen
 
 METRICS = (
-    ('ezmlm_list_whole', 'gauge', 'Whether check says ok of the list.'),
+    ('ezmlm_list_whole', 'gauge', 'Whether check says ok of the list, if nobody held it.'),
     ('ezmlm_list_held', 'gauge', 'Whether another process held the list, so that it could not be looked at.'),
     ('ezmlm_list_check_status', 'gauge', 'The exit status of check.'),
     ('ezmlm_posts', 'gauge', 'Posts in the archive.'),
@@ -27,9 +28,10 @@ METRICS = (
 
 def samples(one: Seen) -> Iterator[tuple[str, dict[str, str], float]]:
     """The values of a list, each with the metric's name and further labels."""
-    yield 'ezmlm_list_whole', {}, float(one.status == 0)
+    if not one.is_held:  # Nobody knows then, and 0 would wake somebody.
+        yield 'ezmlm_list_whole', {}, float(one.status == 0)
+        yield 'ezmlm_list_check_status', {}, float(one.status)
     yield 'ezmlm_list_held', {}, float(one.is_held)
-    yield 'ezmlm_list_check_status', {}, float(one.status)
     if one.counts:
         yield 'ezmlm_posts', {}, one.counts[0]
         for name, many in zip(SETS, one.counts[1:6]):
@@ -45,10 +47,18 @@ def samples(one: Seen) -> Iterator[tuple[str, dict[str, str], float]]:
         yield f'ezmlm_disk_{label}', {}, value
 
 
+def address(one: Seen) -> str:
+    """The list's address, which labels its samples. If it is held, its configuration is read all the same, so that they stay one series."""
+    try:
+        return one.address or content(one.folder, 'config', configuration).address.decode('ascii')
+    except (Damaged, OSError):
+        return ''
+
+
 def metrics(words: Sequence[str], program: str, wait: float) -> Said:
     """Prometheus' text format, for the textfile collector of node_exporter."""
     every = all_seen(words, program, wait)
-    found = [(name, {'folder': str(one.folder), 'list': one.address, **more}, value) for one in every for name, more, value in samples(one)]
+    found = [(name, {'folder': str(one.folder), 'list': address(one), **more}, value) for one in every for name, more, value in samples(one)]
     lines = []
     for name, kind, about in METRICS:
         lines += [f'# HELP {name} {about}', f'# TYPE {name} {kind}']

@@ -2,16 +2,15 @@
 
 from __future__ import annotations
 
-import getopt
 import os
 import pathlib
 import shlex
 import tempfile
-from dataclasses import dataclass
 
 from . import files, texts
 from .config import LETTERS, Configuration, configuration
-from .lists import NO_LIST, REFUSED, USAGE, MailingList, Refused, Said, content
+from .lists import NO_LIST, REFUSED, MailingList, Refused, Said, content
+from .wanted import Asked, asked, unnamed, words_of
 
 MEANINGS = {
     'b': 'the archive is for moderators alone',
@@ -34,37 +33,6 @@ PARTS = 'key', 'subscribers', 'digest', 'allow', 'deny', 'mod', 'counts', 'archi
     'ids', 'done', 'floor'
 
 
-@dataclass(frozen=True)
-class Asked:
-    """What the words ask for: words for `make`, an owner instead of the list's, and whether that nobody moderates is all right."""
-    words: list[str]
-    owner: str | None
-    anyway: bool
-
-
-def asked(words: list[str]) -> Asked:
-    """Reads the words. Those that are none of the command's are Refused; values are left to `make`."""
-    try:
-        found, rest = getopt.getopt(words, LETTERS + LETTERS.upper(), ['prefix=', 'max=', 'owner=', 'anyway'])
-    except getopt.GetoptError as error:
-        raise Refused(USAGE, f'options: {texts.safe(str(error))}') from error
-    given = dict(found)
-    if rest or all(word.startswith('--') for word, _ in found):
-        raise Refused(USAGE, f'options: {texts.safe(rest[0])} is none of its words' if rest else
-                      'options: name the letters too, all that are to be set (-p alone if no other is)')
-    for_make = [f'{word}={value}' if word.startswith('--') else word for word, value in found if word not in ('--owner', '--anyway')]
-    return Asked(for_make, given.get('--owner'), '--anyway' in given)
-
-
-def words_of(config: Configuration) -> list[str]:
-    """The words by which `make` writes this configuration."""
-    letters = ''.join(letter for letter in LETTERS if config.has(letter) and letter != 'p') + ('' if config.has('p') else 'P')
-    words = [f'-{letters or "p"}']
-    if config.prefix != (b'[%b]' % config.local if config.has('f') else b''):
-        words.append(f'--prefix={config.prefix.decode("ascii")}')
-    return [*words, *([f'--max={config.most}'] if config.most != 1_048_576 else [])]
-
-
 def told(config: Configuration) -> Said:
     """The options in words."""
     lines = [f'list    {texts.safe(config.address)}', f'owner   {texts.safe(config.owner)}', f'prefix  {texts.safe(config.prefix)}'.rstrip(),
@@ -80,7 +48,7 @@ def data(config: Configuration) -> dict[str, object]:
 
 
 def options(chosen: MailingList, *words: str) -> Said:
-    """Tells the options, or changes them to what `make` would write of these words."""
+    """Tells the options, or changes single ones, or all to what `make` would write of these words."""
     if not words:
         return told(chosen.configuration())
     wanted = asked(list(words))
@@ -103,6 +71,9 @@ def change(folder: pathlib.Path, chosen: MailingList, wanted: Asked) -> tuple[by
         place = pathlib.Path(scratch)
         made_text = made(place / 'made', chosen, old, wanted)
         new = configuration(made_text)
+        if not wanted.anyway and (lost := unnamed(old, new, wanted)):
+            raise Refused(REFUSED, f'{", ".join(lost)} would be lost, as {"it isn" if len(lost) == 1 else "they aren"}\'t named: +LETTERS changes single '
+                                   'ones and leaves all others (+d sets d, +D clears it); --anyway does it')
         moderators = content(folder, 'counts/mod', files.count)
         if turned_on := [letter for letter in 'ms' if new.has(letter) and not old.has(letter)]:
             if not moderators and not wanted.anyway:
@@ -121,8 +92,8 @@ def made(scratch: pathlib.Path, chosen: MailingList, old: Configuration, wanted:
     """The configuration that the program's `make` writes of these words, in a folder of its own."""
     scratch.mkdir()
     local, host, owner = (text.decode('ascii') for text in (old.local, old.host, old.owner))
-    values = local, host, owner if wanted.owner is None else wanted.owner
-    status, output = chosen.once(scratch, 'make', *wanted.words, '--key', '0' * 64, '--', *values)
+    values = local, host, wanted.values.get('--owner', owner)
+    status, output = chosen.once(scratch, 'make', *wanted.words(old), '--key', '0' * 64, '--', *values)
     if status:
         line = texts.safe(output.strip(b'\n'))
         raise Refused(status, f'make refuses these words: {line} (each letter once; 1 to 62 bytes of --prefix; 1 to 16777216 for --max; an '

@@ -44,7 +44,7 @@ def case_options_changed(world):
     for words, owner in ((('-dm', '--max', '4096'), None), (('-tu', '--max=5', '-k'), None), (('-P',), None),
             (('-bghjlrs',), 'new@own.org'), (('-p',), None)):
         owner = owner or former.split(b'\n')[3].removeprefix(b'owner ').decode()
-        said = world.admin('cats', 'options', *words, '--owner', owner)
+        said = world.admin('cats', 'options', *words, '--owner', owner, '--anyway')
         now = (folder / 'config').read_bytes()
         same(now, made(world, *words, owner=owner), f'{words}')
         same((folder / 'config.old').read_bytes(), former, 'the former one')
@@ -52,7 +52,7 @@ def case_options_changed(world):
         holds(said, f'check: {line}', 'said')
         same(((folder / 'config').stat().st_mode & 0o777, (folder / 'config.old').stat().st_mode & 0o777), (0o600, 0o600), 'modes')
         former = now
-    same(world.admin('cats', 'options', '-p'), f'the options are as they were\ncheck: {line}\n', 'the same again')
+    same(world.admin('cats', 'options', '-p', '--max', '1048576'), f'the options are as they were\ncheck: {line}\n', 'the same again')
     said = world.admin('cats', 'options', '-dm', '--max', '77')
     for part in ('max: 1048576 -> 77', 'd: now there are digests', 'm: now posts are moderated', 'the former ones are in config.old',
             'the digests begin'):
@@ -61,18 +61,40 @@ def case_options_changed(world):
     check(not list(folder.glob('*.new')), 'something is left')
 
 
+def case_options_single(world):
+    """+LETTERS change these alone, values alone too; what -LETTERS would undo unnamed is refused, and named, without --anyway."""
+    folder = world.list('cats', '-dk', '--max', '4096', '--prefix', 'x y')
+    keeps = '--prefix=x y', '--max=4096'
+    for words, letters in ((('+t',), '-dkt'), (('+uT',), '-dku'), (('+D', '+f'), '-kuf'), (('+P',), '-kufP'), (('+p',), '-kuf')):
+        world.admin('cats', 'options', *words)
+        same((folder / 'config').read_bytes(), made(world, letters, *keeps), words)
+    world.admin('cats', 'options', '--max', '99')
+    same((folder / 'config').read_bytes(), made(world, '-kuf', '--prefix=x y', '--max=99'), '--max alone')
+    before = (folder / 'config').read_bytes()
+    for words, lost in ((('-d',), 'f, k, u, --max would be lost, as they aren\'t named'), (('-kuf', '--max', '99'), '--prefix would be lost, as it isn\'t'),
+                        (('-kuF', '--prefix=x y'), '--max would be lost')):
+        holds(world.admin('cats', 'options', *words, status=100), lost, words)
+        same((folder / 'config').read_bytes(), before, words)
+    world.admin('cats', 'options', '-dKUF', '--prefix=x y', '--max=99')
+    world.admin('cats', 'options', '-t', '--anyway')
+    same((folder / 'config').read_bytes(), made(world, '-t'), '--anyway')
+    world.admin('cats', 'options', '+f')
+    same((folder / 'config').read_bytes(), made(world, '-tf'), 'f gets the prefix that make gives it')
+    holds(world.admin('cats', 'options', '+m', status=100), 'the list has none', 'without a moderator')
+
+
 def case_options_prefix(world):
     """A prefix that would leave threads that don't agree is refused, and nothing changes; one that check takes is laid in."""
     folder = archive(world, 'cats', 6, '-f')
     before = (folder / 'config').read_bytes()
-    for words in (('-d',), ('-f', '--prefix', '[x]'), ('-F', '--prefix', 'topic')):
+    for words in (('-d', '--anyway'), ('-f', '--prefix', '[x]'), ('-F', '--prefix', 'topic'), ('+F', '--prefix', 'topic')):
         said = world.admin('cats', 'options', *words, status=100)
         holds(said, 'the threads of the posts that are there are made by [cats] (check would say: 75 archive/threads/', 'refusal')
         holds(said, "keep it by '--prefix=[cats]'", 'refusal')
         same((folder / 'config').read_bytes(), before, 'the configuration')
         check(not (folder / 'config.old').exists(), 'there is a config.old')
     asked = told(world, 'cats', 6)
-    world.admin('cats', 'options', '-d', '--prefix=[cats]')
+    world.admin('cats', 'options', '-dF', '--prefix=[cats]')
     same(told(world, 'cats', 6), asked, 'what the program tells')
     archive(world, 'dogs', 6)
     world.admin('dogs', 'options', '-f', status=0)
@@ -99,12 +121,12 @@ def case_options_refused(world):
     """Words that make doesn't take, values without letters and a list that isn't whole are refused with the reason."""
     folder = world.list()
     before = (folder / 'config').read_bytes()
-    for words in (('-dd',), ('-dD',), ('-d', '--max', '0'), ('-d', '--max', '16777217'), ('-d', '--max', '1', '--max', '2'),
-            ('-d', '--prefix', ''),
+    for words in (('-dd',), ('-dD',), ('-d', '--max', '0'), ('-d', '--max', '16777217'), ('-d', '--prefix', ''),
                   ('-d', '--prefix', ' x'), ('-d', '--prefix', 'x' * 63), ('-d', '--owner', 'nobody'), ('-d', '--owner', 'cats-owner@ex.org'),
                   ('-d', '--owner', '')):
         holds(world.admin('cats', 'options', *words, status=64), 'make refuses these words: - 64 usage', words)
-    for words in (('--max', '5'), ('-x',), ('-d', 'word'), ('--other',), ('-',), ('--',), ('-d', '--max'), ('d',)):
+    for words in (('-x',), ('-d', 'word'), ('--other',), ('-',), ('--',), ('-d', '--max'), ('d',), ('+',), ('+x',), ('+d', '-m'), ('-m', '+d'), ('+dd',),
+                  ('+d', '+D'), ('+d', 'm'), ('--max', '5', '--max', '6'), ('--anyway',)):
         holds(world.admin('cats', 'options', *words, status=64), 'options: ', words)
     (folder / 'counts/deny').write_bytes(b'5\n')
     holds(world.admin('cats', 'options', '-d', status=75), "a list that isn't whole stay: check says: 75 counts/deny", 'refusal')

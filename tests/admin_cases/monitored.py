@@ -7,7 +7,7 @@ import shutil
 import subprocess
 import time
 
-from ezmlm_admin import monitoring
+from ezmlm_admin import metrics, monitoring
 
 from .world import BEGIN, Skipped, check, held, holds, post, same
 
@@ -144,3 +144,7 @@ def case_metrics(world):
     check(helps == types and len(helps) == len(set(helps)), 'HELP and TYPE')
     check({name for name, _, _ in found} <= set(helps), 'a metric without HELP')
     holds(world.admin('metrics', status=64), 'usage: ezmlm-admin metrics LISTS ..', 'without lists')
+    with held(folder):
+        samples = metrics.metrics([str(folder)], str(world.program), 0.1)
+    found = {row['metric']: (row['labels']['list'], row['value']) for row in samples.data}
+    same((found['ezmlm_list_held'], 'ezmlm_list_whole' in found, 'ezmlm_list_check_status' in found), (('cats@ex.org', 1.0), False, False), 'held')

@@ -110,7 +110,7 @@ def case_scrub_runs(world):
              lambda: world.answers('cats', 'sent', '0', '1'), lambda: world.answers('cats', 'rekey', '0', '08' * 32),
              lambda: world.spool('cats', (b'D', 700, BEGIN + 99 * DAY, b'', b'cats-return-1-a=b@ex.org', b'\n')),
              lambda: world.answers('cats', 'timed', '0'), lambda: world.answers('cats', 'floor', '0', '1200'),
-             lambda: world.admin('cats', 'options', '-dm', '--max', '77777'), lambda: world.admin('cats', 'rebuild')]
+             lambda: world.admin('cats', 'options', '+M', '--max', '77777'), lambda: world.admin('cats', 'rebuild')]
     ran(world)
     for number, step in enumerate(steps):
         step()

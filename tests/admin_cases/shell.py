@@ -35,12 +35,14 @@ def case_completion(world):
             ('ezmlm', ['cats', 'out', ''], ['1', '2']),
             ('ezmlm', ['cats', 'make', '--'], ['--key', '--prefix', '--max']), ('ezmlm', ['cats', 'split', '-a', '1', 'a'], ['allow']),
             ('ezmlm-agent', ['--c'], ['--check', '--configure']), ('ezmlm-agent', ['--check', 'ca'], ['cats']),
-            ('ezmlm-admin', [''], ['cats', 'watch', 'metrics']), ('ezmlm-admin', ['--j'], ['--json']), ('ezmlm-admin', ['--json', 'c'], ['cats']),
+            ('ezmlm-admin', [''], ['cats', 'watch', 'metrics', 'scrub']), ('ezmlm-admin', ['--j'], ['--json']), ('ezmlm-admin', ['--json', 'c'], ['cats']),
             ('ezmlm-admin', ['cats', 'he'], ['held']), ('ezmlm-admin', ['cats', 'accept', ''], ['1', '2']),
             ('ezmlm-admin', ['cats', 'bounces', ''], ['list', 'digest']),
             ('ezmlm-admin', ['--program', 'ca'], ['cats']), ('ezmlm-admin', ['--program', 'x', 'cats', 'reb'], ['rebuild']),
             ('ezmlm-admin', ['watch', 'c'], ['cats']),
             ('ezmlm-admin', ['cats', 'options', '--a'], ['--anyway']), ('ezmlm-admin', ['cats', 'member', 'x'], []),
+            ('ezmlm-admin', ['cats', 'options', '+m'], ['+m']), ('ezmlm-admin', ['scrub', '--'], ['--repair', '--anew']),
+            ('ezmlm-admin', ['cats', 'scrub', '--r'], ['--repair']), ('ezmlm-admin', ['scrub', 'c'], ['cats']),
             ('ezmlm-admin', ['cats', 'watch', 'c'], ['cats'])):
         same(proposed(world, name, *words), wanted, f'{name} {words}')
     same(set(proposed(world, 'ezmlm-admin', 'cats', '')), {*command.WORDS, *command.MONITORS}, 'all words')
@@ -52,7 +54,7 @@ def case_completion(world):
 def case_manual_page(world):
     """The manual page has each word, and groff has nothing to say of it."""
     page = (TOP / 'man/ezmlm-admin.8').read_text()
-    for word in (*command.WORDS, *command.MONITORS, r'\-\-json', r'\-\-program', r'\-\-help', r'\-\-anyway', r'\-\-owner'):
+    for word in (*command.WORDS, *command.MONITORS, r'\-\-json', r'\-\-program', r'\-\-help', r'\-\-anyway', r'\-\-owner', r'\-\-repair', r'\-\-anew'):
         check(word in page, f'{word} is not in it')
     if shutil.which('groff') is None:
         raise Skipped('groff is not installed')
