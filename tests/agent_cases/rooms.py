@@ -51,6 +51,7 @@ def case_room(world):
             same(client.mail('w@m.net', [f'cats@{HOST}'], post(2)), [room.FULL], 'without')
         same(client.mail('w@m.net', [f'nobody@{HOST}'], post(2)), ['550 5.1.1 There is no list of this address.'], 'no list')
     check(world.is_out(3), f'{len(world.sink.copies)} copies')
+    check(world.tells('bytes are free on the disk'), 'the log does not say so')
     same(world.log().count('bytes are free on the disk, and mail is put off below'), 1, 'lines of the log')
     world.end()
     del world.rows['reserve']
