@@ -42,7 +42,7 @@ class Agent:
         self.shared = mails.Shared(chosen, program.Program(chosen.program, chosen.runs), self.exchange, wire.Room(size), wire.Room(size))
         self.lists = lists.Lists(chosen, self.take_up)
         self.server = lmtp.Server(chosen.name, self.lists.find, size, chosen.replies)
-        self.policy = policy.Policy(self.lists.find)
+        self.policy = policy.Policy(self.lists.find, self.server.replies)
         self.listener = listening.Listener()
         self.ended = asyncio.Event()
         self.hosts = hosts_of(chosen, lambda: self.lists.served.values())

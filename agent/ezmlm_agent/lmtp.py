@@ -4,6 +4,7 @@ import asyncio
 import logging
 import re
 from collections.abc import Awaitable, Callable
+from typing import NamedTuple
 
 from . import lists, program, refusals, replies, signing, wire
 
@@ -15,7 +16,7 @@ MOST_RECIPIENTS = 1000
 MOST_SESSIONS = 1000
 PER_RECIPIENT = 500  # bytes of memory for each, beside its address
 LEAVING = 10  # seconds for telling the last replies, when the agent stops
-OFTEN = '450 4.7.1 This sender has asked the lists here for too many answers in the last hour; later.'
+DROPPED = program.Answer(0, 'dropped')  # said of a mail that would be one answer too many
 SIZE = re.compile(rb'(?:^| )SIZE=(\d{1,20})(?: |$)', re.IGNORECASE)  # RFC 1870
 
 Find = Callable[[bytes], Awaitable[lists.Named | None]]
@@ -62,6 +63,13 @@ class Server:
             await asyncio.wait(self.sessions, timeout=LEAVING)
 
 
+class Recipient(NamedTuple):
+    """A recipient, and what its answer counts for, or None if it would be one too many."""
+    named: lists.Named
+    address: bytes
+    counted: replies.Keys | None
+
+
 class Session:
     """One connection."""
 
@@ -69,17 +77,17 @@ class Session:
         self.server, self.wire = server, connection
         self.is_greeted = False
         self.held = 0
-        self.counted = 0  # recipients that a list would answer, and that weren't answered yet
         self.sender: bytes | None = None
-        self.recipients: list[tuple[lists.Named, bytes]] = []
+        self.recipients: list[Recipient] = []  # that weren't answered yet
         self.commands: dict[bytes, Callable[[bytes], Awaitable[None]]] = {
             b'LHLO': self.hello, b'MAIL': self.mail, b'RCPT': self.rcpt, b'DATA': self.data, b'RSET': self.reset, b'NOOP': self.noop}
         self.forget()
 
     def forget(self) -> None:
         """There is no mail in hand."""
-        self.server.replies.give_back(self.sender or b'', self.counted)
-        self.counted, self.sender, self.recipients, self.size = 0, None, [], 0
+        for recipient in self.recipients:
+            self.server.replies.give_back(recipient.counted or ())
+        self.sender, self.recipients, self.size = None, [], 0
         self.give_room()
 
     async def talk(self) -> None:
@@ -138,13 +146,9 @@ class Session:
             return await self.say(f'451 4.3.0 {error}')
         if found is None:
             return await self.say('550 5.1.1 There is no list of this address.')
-        if replies.is_answered(found.rest) and self.sender:
-            if not self.server.replies.take(self.sender):
-                return await self.say(OFTEN)
-            self.counted += 1
         if not self.take_room(len(recipient) + PER_RECIPIENT):
             return await self.say(refusals.CROWDED)
-        self.recipients.append((found, recipient))
+        self.recipients.append(Recipient(found, recipient, await self.server.replies.take(found, self.sender)))
         await self.say('250 2.1.5 Ok')
 
     def take_room(self, size: int) -> bool:
@@ -183,19 +187,24 @@ class Session:
         """The replies by the lists' answers, which are waited for even when the agent stops."""
         sender, task = self.sender or b'', asyncio.current_task()
         assert task
-        given = asyncio.gather(*(given_to(named, sender, recipient, message) for named, recipient in self.recipients))
+        given = asyncio.gather(*(given_to(recipient, sender, message) for recipient in self.recipients))
         self.server.answering.add(task)
         try:
             answers = await given
         finally:
             self.server.answering.discard(task)
-        rests = [named.rest for named, _ in self.recipients]
-        self.counted -= sum(replies.is_answered(rest) and is_mailed(answer) for rest, answer in zip(rests, answers)) if sender else 0
-        return [refusals.reply_for(answer, rest) for answer, rest in zip(answers, rests)]
+        texts = [refusals.reply_for(answer, recipient.named.rest) for answer, recipient in zip(answers, self.recipients)]
+        self.recipients = [recipient for answer, recipient in zip(answers, self.recipients) if not is_mailed(answer)]
+        return texts
 
 
-async def given_to(named: lists.Named, sender: bytes, recipient: bytes, message: bytes) -> program.Answer:
-    """The list's answer to a mail. One by which `--check` looks for signatures isn't given to the list."""
+async def given_to(to: Recipient, sender: bytes, message: bytes) -> program.Answer:
+    """The list's answer to a mail. One that would be an answer too many isn't given to the list, and one by which `--check` looks for
+    signatures neither."""
+    named, recipient, counted = to
+    if counted is None:
+        log.info('%s - %s %s: dropped: its sender has asked for too many answers', named.list.name, wire.shown(sender), wire.shown(recipient))
+        return DROPPED
     number = signing.number_of(named.rest)
     if number is None:
         return await named.list.receive(sender, recipient, named.rest, message)
