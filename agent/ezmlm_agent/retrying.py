@@ -7,7 +7,7 @@ import time
 from collections.abc import Callable
 from typing import TYPE_CHECKING
 
-from . import aside, program, trouble
+from . import aside, program, tended, trouble
 
 if TYPE_CHECKING:
     from . import mailing
@@ -74,9 +74,14 @@ class Health:
         self.folder, self.threads = folder, threads
         self.said, self.again = Said(name), Again(wake)
         self.cause: trouble.Cause | None = None
+        self.fault: tuple[float, str] | None = None  # since when the list puts mail off, by the monotonic clock, and why
+
+    def fails(self, why: str) -> None:
+        """Notes why the list puts mail off. Since when stays, until it works."""
+        self.fault = self.fault[0] if self.fault else time.monotonic(), why
 
     def works(self) -> None:
-        self.cause = None
+        self.cause = self.fault = None
         self.said.worked()
         self.again.worked()
 
@@ -90,8 +95,9 @@ class Health:
         """Looks why a run ended so, in a thread: the disk may be what hangs."""
         try:
             self.cause = await self.threads.call('folder', trouble.of_ending, self.folder, ending.status, ending.words)
-        except aside.Blocked as error:
-            self.cause = trouble.Cause(str(error), self.folder, 'look at its disk')
+        except Exception as error:  # Whatever it is, the list is tried again.
+            self.cause = trouble.Cause(str(error) or type(error).__name__, self.folder, 'look at its disk')
+        self.fails(f'{ending.status} {ending.words}: {self.cause}')
         return self.cause
 
     async def say(self, ending: program.Ending, more: str = '') -> None:
@@ -103,10 +109,16 @@ class Health:
         self.again.failed()
 
     async def failed(self, error: Exception, state: pathlib.Path) -> program.Ending:
-        """The list couldn't be read, or its notes not be written. The answer is what its mail is told."""
+        """The list couldn't be read, or its notes not be written. The answer is what its mail is told. It always has one: the look why it failed
+        may fail too, as on a disk that is gone."""
         cause = error.cause if isinstance(error, Refused) else None
-        cause = cause or await self.threads.call('notes', trouble.of_error, state, error)
-        self.said.say(str(cause) if cause else f'{type(error).__name__}: {error}')
+        try:
+            cause = cause or await self.threads.call('notes', trouble.of_error, state, error)
+        except Exception as why:
+            cause = trouble.Cause(f'{tended.told(error)}, and the look why ended so: {why or type(why).__name__}', state, 'look at its disk')
+        words = str(cause) if cause else tended.told(error)
+        self.fails(words)
+        self.said.say(words)
         self.again.failed()
         return program.Ending(75, f'the agent can\'t write its notes or read the list{f": {cause.what}" if cause else ""}')
 

@@ -1,6 +1,7 @@
 """Mail out, by SMTP (RFC 5321), over connections that stay; and with XVERP, by which Postfix names each recipient in its sender."""
 
 import asyncio
+import contextlib
 import re
 import time
 from collections.abc import AsyncIterator, Sequence
@@ -10,12 +11,17 @@ from . import settings, wire
 
 STAYS = 60       # seconds for which a connection that isn't used stays
 CONNECTING = 30  # seconds
+LOOKS = 150      # seconds after which it is seen whether the transfer agent is there though no mail goes out
 TAKING = 600     # seconds until a mail that was sent is taken (RFC 5321 4.5.3.2.6)
 MOST_LINES = 100  # of a reply
 
 
 class Untouched(wire.Gone):
     """The connection ended before any of the mail was sent over it, so nobody got it."""
+
+
+class Away(wire.Gone):
+    """The transfer agent can't be reached, or doesn't greet."""
 
 
 class Reply(NamedTuple):
@@ -42,7 +48,7 @@ async def connect(address: str) -> 'Connection':
                 return Connection(*await asyncio.open_unix_connection(where))
             return Connection(*await asyncio.open_connection(*where))
     except OSError as error:
-        raise wire.Gone(f'{address}: {error or "no answer"}') from error
+        raise Away(f'{address}: {error or "no answer"}') from error
 
 
 class Connection:
@@ -51,6 +57,7 @@ class Connection:
         self.extensions: set[str] = set()
         self.used = time.monotonic()
         self.is_open = True
+        self.address = ''  # of the transfer agent, as the settings have it
 
     async def reply(self, seconds: float = wire.QUIET) -> Reply:
         """A reply: its code and its text. By 421 the other side says that it hangs up."""
@@ -141,16 +148,48 @@ class Exchange:
         self.kept: list[Connection] = []
         self.extensions: set[str] = set()
         self.has_taken = False  # whether it took any copy so far
+        self.heard = 0.0  # when it last greeted or answered, by the monotonic clock
+        self.fault: tuple[float, str] | None = None  # since when it can't be reached, and why
+        self.hung_up: set[object] = set()  # whose mail it hung up on since it last took any
 
     async def fresh(self) -> Connection:
+        begun = time.monotonic()
+        try:
+            connection = await self.greeted()
+        except wire.Gone as error:
+            self.fault = self.fault[0] if self.fault else begun, str(error)
+            raise Away(str(error)) from error
+        self.extensions, self.heard, self.fault = connection.extensions, time.monotonic(), None
+        return connection
+
+    async def greeted(self) -> Connection:
         connection = await connect(self.address)
+        connection.address = self.address
         try:
             await connection.greet(self.name)
         except BaseException:
             connection.wire.close()
             raise
-        self.extensions = connection.extensions
         return connection
+
+    def goes_to(self, address: str, name: str) -> None:
+        """From now on mail is handed on there, under this name."""
+        if (address, name) != (self.address, self.name):
+            self.address, self.name, self.fault, self.heard = address, name, None, 0.0
+            self.close_unused(0)
+
+    async def look(self) -> None:
+        """Sees whether the transfer agent is there, unless that was seen a short time ago, or all connections to it are at work."""
+        if (self.fault or time.monotonic() - self.heard > LOOKS) and not self.free.locked():
+            with contextlib.suppress(wire.Gone):
+                async with self.free:
+                    self.kept.append(await self.fresh())
+
+    def hangs_up(self, whose: object) -> bool:
+        """Notes that it hung up on somebody's mail. The answer is whether it hung up on no other since it last took any: then it is this mail's
+        fault, as far as can be told, and not the transfer agent's."""
+        self.hung_up.add(whose)
+        return self.hung_up == {whose}
 
     def used(self) -> Connection | None:
         """A connection that was used before, or None."""
@@ -186,9 +225,12 @@ class Exchange:
         except BaseException:
             connection.wire.close()
             raise
-        if connection.is_open:
+        if connection.is_open and connection.address == self.address:
             self.kept.append(connection)
         else:
             connection.close()
-        self.has_taken = self.has_taken or any(map(is_good, replies))
+        self.heard = time.monotonic()
+        if any(map(is_good, replies)):
+            self.has_taken = True
+            self.hung_up.clear()
         return replies
