@@ -77,6 +77,8 @@ def seen(path: pathlib.Path, program: str, until: float) -> Seen:
 
 
 def look(chosen: MailingList, found: Seen) -> None:
+    if not (found.folder / 'config').is_file():  # A run of the program would wait for whoever writes into a pipe.
+        raise Refused(DISK, f'{found.folder / "config"} is no file')
     found.status, line = chosen.check()
     found.word = line.split(' ')[0] if found.status == 0 else line.removeprefix(f'{found.status} ')
     found.counts = [int(number) for number in line.split(' ')[1:]] if found.status == 0 else []

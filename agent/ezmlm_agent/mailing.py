@@ -160,6 +160,10 @@ class MailingList:
         batch = mails.first_of(self.waiting)
         try:
             await self.serve(batch)
+            if self.health.wants_check():
+                async with self.turn:
+                    status, _ = await self.program.run(self.folder, 'check')
+                self.health.checked(status)
         except Exception as error:
             await self.fail(batch, error)
 

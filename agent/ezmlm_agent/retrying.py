@@ -23,6 +23,7 @@ class Again:
     def __init__(self, wake: Callable[[], object]) -> None:
         self.wake, self.pause = wake, SHORTEST
         self.timer: asyncio.TimerHandle | None = None
+        self.has_rung = False  # whether the list is to be tried again now
 
     def failed(self) -> None:
         if self.timer is None:
@@ -31,6 +32,7 @@ class Again:
 
     def due(self) -> None:
         self.timer = None
+        self.has_rung = True
         self.wake()
 
     def worked(self) -> None:
@@ -74,7 +76,8 @@ class Health:
         self.folder, self.threads = folder, threads
         self.said, self.again = Said(name), Again(wake)
         self.cause: trouble.Cause | None = None
-        self.fault: tuple[float, str] | None = None  # since when the list puts mail off, by the monotonic clock, and why
+        self.fault: tuple[float, str] | None = None   # since when the list puts mail off, by the monotonic clock, and why
+        self.damage: tuple[float, str] | None = None  # the same for a damaged file: what doesn't read that file works all the time
 
     def fails(self, why: str) -> None:
         """Notes why the list puts mail off. Since when stays, until it works."""
@@ -82,8 +85,24 @@ class Health:
 
     def works(self) -> None:
         self.cause = self.fault = None
-        self.said.worked()
-        self.again.worked()
+        if self.damage is None:
+            self.said.worked()
+            self.again.worked()
+        else:
+            self.again.failed()
+
+    def wants_check(self) -> bool:
+        """Whether it is to be seen now if a damaged file was mended."""
+        has_rung, self.again.has_rung = self.again.has_rung, False
+        return has_rung and self.damage is not None
+
+    def checked(self, status: int) -> None:
+        """What the program's `check` ended with, of a list that had a damaged file."""
+        if status == 0:
+            self.damage = None
+            self.works()
+        else:
+            self.again.failed()
 
     def ending(self) -> program.Ending:
         """Why a mail has no answer yet."""
@@ -97,7 +116,11 @@ class Health:
             self.cause = await self.threads.call('folder', trouble.of_ending, self.folder, ending.status, ending.words)
         except Exception as error:  # Whatever it is, the list is tried again.
             self.cause = trouble.Cause(str(error) or type(error).__name__, self.folder, 'look at its disk')
-        self.fails(f'{ending.status} {ending.words}: {self.cause}')
+        why = f'{ending.status} {ending.words}: {self.cause}'
+        if ending.status == 75 and ending.words != 'nolist':
+            self.damage = self.damage[0] if self.damage else time.monotonic(), why
+        else:
+            self.fails(why)
         return self.cause
 
     async def say(self, ending: program.Ending, more: str = '') -> None:

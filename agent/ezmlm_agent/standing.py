@@ -31,9 +31,9 @@ def since(moment: float, now: float) -> str:
 
 def of_list(found: 'mailing.MailingList', now: float) -> Iterator[Fault]:
     """What is to be said of a list that is served."""
-    fault = found.health.fault
-    if fault is not None and now - fault[0] > PUT_OFF:
-        yield CRITICAL, found.name, f'puts mail off {since(fault[0], now)}: {fault[1]}'
+    for fault in (found.health.fault, found.health.damage):
+        if fault is not None and now - fault[0] > PUT_OFF:
+            yield CRITICAL, found.name, f'puts mail off {since(fault[0], now)}: {fault[1]}'
     queue = found.queue
     if queue.fault is not None and now - queue.fault[0] > OUT:
         yield CRITICAL, found.name, f'hands nothing on {since(queue.fault[0], now)}, and something waits: {queue.fault[1]}'

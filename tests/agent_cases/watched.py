@@ -13,7 +13,7 @@ import sys
 import time
 
 from .sink import Sink
-from .world import TOP, begins, check, held, same, until
+from .world import HOST, TOP, begins, check, held, same, until
 
 sys.path.insert(0, str(TOP / 'agent'))
 from ezmlm_agent import asking  # noqa: E402
@@ -93,7 +93,10 @@ def case_watched_damage(world):
     world.begin(words=EARLY)
     (folder / 'num').write_bytes(b'x\n')
     begins(world.post(1), '451 4.3.0 75 num', 'the damaged list')
-    both_say(world, f'75 num: this file is damaged ({folder}/num)', 2)
+    both_say(world, f'puts mail off for', 2)
+    check(f'75 num: this file is damaged ({folder}/num)' in status(world)[1], status(world))
+    same(world.mail('w@m.net', [f'cats-help@{HOST}'], b'x: y\n\n'), ['250 2.0.0 help'], 'what does not read it')
+    both_say(world, f'puts mail off for', 2)
     (folder / 'num').write_bytes(b'0\n')
     check(until(lambda: status(world)[0] == 0), f'it stays critical: {status(world)}')
     config = world.folder('dogs') / 'config'
