@@ -6,7 +6,7 @@ import re
 from collections.abc import Awaitable, Callable
 from typing import NamedTuple
 
-from . import lists, program, refusals, replies, signing, wire
+from . import lists, program, refusals, replies, signing, tended, wire
 
 log = logging.getLogger('ezmlm-agent')
 LONGEST_MAIL = 33_554_432  # of a message, with LF at its lines' ends
@@ -47,6 +47,9 @@ class Server:
             pass
         except asyncio.CancelledError:
             writer.write(b'421 4.3.2 The agent stops.\r\n')
+        except Exception as error:  # Whatever it is, the mail comes again, and other connections go on.
+            log.error('a connection of LMTP ended by an error: %s', tended.told(error))
+            writer.write(b'421 4.3.0 The agent has an error, which its log tells.\r\n')
         finally:
             self.sessions.discard(task)
             session.forget()

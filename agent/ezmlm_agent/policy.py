@@ -7,7 +7,7 @@ import asyncio
 import functools
 import logging
 
-from . import envelope, folder, lists, lmtp, refusals, replies, wire
+from . import envelope, folder, lists, lmtp, refusals, replies, tended, wire
 
 log = logging.getLogger('ezmlm-agent')
 MOST_LINES = 200  # of a request
@@ -35,6 +35,8 @@ class Policy:
                 await connection.say(b'action=%b\n\n' % (await self.action(asked)).encode())
         except (wire.Gone, asyncio.CancelledError):
             pass
+        except Exception as error:  # Whatever it is, Postfix asks again, and other connections go on.
+            log.error('a connection of the policy service ended by an error: %s', tended.told(error))
         finally:
             self.sessions.discard(task)
             writer.close()

@@ -7,7 +7,7 @@ import time
 from collections.abc import Iterator
 from typing import TYPE_CHECKING, Any
 
-from . import wire
+from . import tended, wire
 
 if TYPE_CHECKING:
     from . import lists, mailing, smtp
@@ -93,6 +93,8 @@ class Standing:
                 await writer.wait_closed()
         except OSError:
             pass
+        except Exception as error:  # Whatever it is, the next one is answered.
+            log.error('a monitor has no answer: %s', tended.told(error))
         finally:
             self.sessions -= 1
             writer.transport.abort()
