@@ -72,12 +72,23 @@ class Handing:
         del text, words
         attempt.is_tried = is_tried
         self.attempts[entry] = attempt
-        ends = await asyncio.gather(*(self.hand_on_row(attempt, *row) for row in rows), return_exceptions=True)
+        if len(rows) == 1:  # It needs no task of its own.
+            ends: list[BaseException | None] = [await self.ended(attempt, *rows[0])]
+        else:
+            ends = await asyncio.gather(*(self.ended(attempt, *row) for row in rows))
         is_told = await self.tell_refused(attempt)
         for error in ends:
             if isinstance(error, BaseException):
                 raise error
         return is_told and not attempt.put_off
+
+    async def ended(self, attempt: Attempt, sender: bytes, named: bool, row: list[copies.Copy]) -> BaseException | None:
+        """By which error one transaction ended, or None."""
+        try:
+            await self.hand_on_row(attempt, sender, named, row)
+        except Exception as error:
+            return error
+        return None
 
     def mail_of(self, entry: int, elements: Sequence[bytes]) -> bytes:
         """What goes out for an entry's mail: with the fields of its list's section, or as the list wrote it if they can't be put in."""

@@ -15,6 +15,7 @@ LONGEST_PATH = 1000
 MOST_RECIPIENTS = 1000
 MOST_SESSIONS = 1000
 PER_RECIPIENT = 500  # bytes of memory for each, beside its address
+SAID = 4096   # bytes of replies that wait for others, at most
 LEAVING = 10  # seconds for telling the last replies, when the agent stops
 DROPPED = program.Answer(0, 'dropped')  # said of a mail that would be one answer too many
 SIZE = re.compile(rb'(?:^| )SIZE=(\d{1,20})(?: |$)', re.IGNORECASE)  # RFC 1870
@@ -42,14 +43,14 @@ class Server:
         try:
             await session.talk()
         except wire.TooLong:
-            writer.write(b'500 5.5.2 A line is longer than %d bytes.\r\n' % wire.LONGEST_LINE)
+            writer.write(session.said + b'500 5.5.2 A line is longer than %d bytes.\r\n' % wire.LONGEST_LINE)
         except wire.Gone:
             pass
         except asyncio.CancelledError:
-            writer.write(b'421 4.3.2 The agent stops.\r\n')
+            writer.write(session.said + b'421 4.3.2 The agent stops.\r\n')
         except Exception as error:  # Whatever it is, the mail comes again, and other connections go on.
             log.error('a connection of LMTP ended by an error: %s', tended.told(error))
-            writer.write(b'421 4.3.0 The agent has an error, which its log tells.\r\n')
+            writer.write(session.said + b'421 4.3.0 The agent has an error, which its log tells.\r\n')
         finally:
             self.sessions.discard(task)
             session.forget()
@@ -79,7 +80,7 @@ class Session:
     def __init__(self, server: Server, connection: wire.Wire) -> None:
         self.server, self.wire = server, connection
         self.is_greeted = False
-        self.held = 0
+        self.held, self.said = 0, b''  # what is said together with what follows
         self.sender: bytes | None = None
         self.recipients: list[Recipient] = []  # that weren't answered yet
         self.commands: dict[bytes, Callable[[bytes], Awaitable[None]]] = {
@@ -99,12 +100,22 @@ class Session:
             line = await self.wire.line()
             word = line.split(b' ', 1)[0].upper()
             if word == b'QUIT':
-                return await self.say('221 2.0.0 Bye')
+                await self.say('221 2.0.0 Bye')
+                return await self.flush()
             await self.commands.get(word, self.unknown)(line)
         await self.say('421 4.3.2 The agent stops.')
+        await self.flush()
 
     async def say(self, *lines: str) -> None:
-        await self.wire.say(b''.join(line.encode('utf-8', 'replace') + b'\r\n' for line in lines))
+        """Says lines, together with those that follow if their commands are there already (RFC 2920 3.2)."""
+        self.said += b''.join(line.encode('utf-8', 'replace') + b'\r\n' for line in lines)
+        if b'\n' not in self.wire.read or len(self.said) > SAID:
+            await self.flush()
+
+    async def flush(self) -> None:
+        said, self.said = self.said, b''
+        if said:
+            await self.wire.say(said)
 
     async def unknown(self, _: bytes) -> None:
         await self.say('500 5.5.1 Unknown command')
@@ -177,6 +188,7 @@ class Session:
         if not self.recipients:
             return await self.say('503 5.5.1 There is no recipient')
         await self.say('354 End with a dot alone')
+        await self.flush()
         sent, refused = await self.wire.mail(self.refusal)
         message = wire.with_line_feeds(sent) if sent is not None else b''
         del sent

@@ -100,7 +100,10 @@ class Connection:
         return [b' '.join(words) + b'\r\n', *(b'RCPT TO:<%b>\r\n' % wire.quoted(recipient) for recipient in recipients)]
 
     async def propose(self, commands: Sequence[bytes]) -> tuple[list[Reply], Reply | None]:
-        """The replies for the recipients, and the one to DATA, or None if nobody is to have the mail."""
+        """The replies for the recipients, and the one to DATA, or None if nobody is to have the mail. DATA goes out with the others if they go
+        together (RFC 2920 3.1)."""
+        if 'PIPELINING' in self.extensions:
+            return await self.propose_together(commands)
         replies: list[Reply] = []
         is_first = True
         async for reply in self.ask(commands):
@@ -117,6 +120,23 @@ class Connection:
         if reply.code < 400 and reply.code != 354:
             raise wire.Gone(f'said {reply.code} to DATA')
         return replies, reply
+
+    async def propose_together(self, commands: Sequence[bytes]) -> tuple[list[Reply], Reply | None]:
+        await self.wire.say(b''.join(commands) + b'DATA\r\n')
+        first = await self.reply()
+        if not is_good(first):
+            self.is_open = False  # Whatever it says to the other commands, it is said without a sender.
+            return [first] * (len(commands) - 1), None
+        replies = [(await self.reply())._replace(is_of_recipient=True) for _ in commands[1:]]
+        reply = await self.reply()
+        if reply.code < 400 and reply.code != 354:
+            raise wire.Gone(f'said {reply.code} to DATA')
+        if any(map(is_good, replies)):
+            return replies, reply
+        if reply.code == 354:  # It waits for a mail to nobody.
+            await self.wire.say(b'.\r\n')
+            await self.reply(TAKING)
+        return replies, None
 
     async def hand_on(self, sender: bytes, named: bool, recipients: Sequence[bytes], mail: bytes) -> list[Reply]:
         """The reply for each recipient. `mail` is what is sent for a mail."""
