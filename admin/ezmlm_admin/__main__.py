@@ -11,7 +11,7 @@ import sys
 from collections.abc import Callable
 from dataclasses import dataclass
 
-from . import lists, members, metrics, moderating, monitoring, options, rebuild, scrub, texts, waiting
+from . import apart, lists, members, metrics, moderating, monitoring, options, rebuild, scrub, texts, waiting
 from .lists import MEMORY, NO_PERMISSION, USAGE, MailingList, Refused, Said
 
 VERSION = 'ezmlm-admin 0.1'
@@ -24,6 +24,8 @@ WORDS: dict[str, tuple[str, int, int, str, Callable[..., Said]]] = {
     'accept': ('TICKET', 1, 1, 'posts a held post', moderating.accept),
     'reject': ('TICKET', 1, 1, 'gives a held post back to its author', moderating.reject),
     'queue': ('', 0, 0, 'what is still to be sent', waiting.queue),
+    'aside': ('', 0, 0, 'what the agent doesn\'t try any more, since the transfer agent hangs up on it', apart.aside),
+    'again': ('ENTRY', 1, 1, 'has the agent try such an entry again', apart.again),
     'digest': ('', 0, 0, 'what the next digest has, and when it is due', waiting.digest),
     'options': ('[+LETTERS | -LETTERS] [--prefix TEXT] [--max BYTES] [--owner ADDRESS] [--anyway]', 0, 99, 'tells the options, or changes them',
                 options.options),
@@ -35,7 +37,7 @@ MONITORS: dict[str, tuple[str, Callable[..., Said]]] = {
     'scrub': ('which files changed although no run of the program wrote them, by sums of the last time; --repair COPY takes them from a copy '
               'of the list, and --anew takes all as they are', scrub.scrub),
 }
-HELP = '''usage: ezmlm-admin [--json] [--program PATH] FOLDER WORD ..
+HELP = '''usage: ezmlm-admin [--json] [--program PATH] [--agent SETTINGS] FOLDER WORD ..
        ezmlm-admin [--json] [--program PATH] watch | metrics | scrub LISTS ..
 
 FOLDER is a list's folder. Run it as the user that the list belongs to.
@@ -43,6 +45,7 @@ FOLDER is a list's folder. Run it as the user that the list belongs to.
 {}
 
 LISTS are folders of lists, or folders that have such. --json says the same for programs. --program is the program, if it isn't `ezmlm` on PATH.
+LISTS may be the agent's SETTINGS: then all lists of it are watched. --agent names these for aside and again, if not /etc/ezmlm-agent.conf.
 The status is 0; 64 or 65 for wrong words, 75 for no list or a damaged file, 77 for the wrong user, 100 for no, 111 for a list that another
 run holds and for a disk that fails; of watch 0 to 3. See ezmlm-admin(8).'''
 
@@ -85,6 +88,8 @@ def command(words: list[str]) -> Command | str:
                 return VERSION
             case '--program' if left:
                 path = left.pop(0)
+            case '--agent' if left:
+                monitoring.AGENT = left.pop(0)
             case word:
                 raise Refused(USAGE, f'{word} is none of its words; see ezmlm-admin --help')
     if left[1:2] and left[1] in MONITORS and left[0] not in MONITORS:

@@ -8,15 +8,16 @@ import time
 from collections.abc import Iterable, Iterator, Sequence
 from dataclasses import dataclass, field
 
+from ezmlm_agent import asking, wire
 from ezmlm_agent import folder as folders
+from ezmlm_agent import settings as agents
 
 from . import files, sums, texts
 from .config import configuration
-from .lists import DISK, Busy, MailingList, Refused, Said, content, opened
+from .lists import DISK, WAIT, WORDS, Busy, MailingList, Refused, Said, content, opened
 
-OK, WARNING, CRITICAL, UNKNOWN = range(4)  # the statuses of a plugin
-WORST_LAST = OK, UNKNOWN, WARNING, CRITICAL
-NAMES = 'OK', 'WARNING', 'CRITICAL', 'UNKNOWN'
+OK, WARNING, CRITICAL, UNKNOWN = asking.OK, asking.WARNING, asking.CRITICAL, asking.UNKNOWN
+AGENT = '/etc/ezmlm-agent.conf'  # the settings of the agent of this host, if it has one
 LIMITS = {'queue': (3_600, 86_400), 'held': (172_800, 345_600), 'log': (60, 3_600), 'disk': (10, 5)}  # seconds, and percents that are free
 COUNTS = 'posts', 'members of list', 'members of digest', 'members of allow', 'members of deny', 'members of mod', 'held', 'queue'
 
@@ -76,6 +77,8 @@ def seen(path: pathlib.Path, program: str, until: float) -> Seen:
 
 
 def look(chosen: MailingList, found: Seen) -> None:
+    if not (found.folder / 'config').is_file():  # A run of the program would wait for whoever writes into a pipe.
+        raise Refused(DISK, f'{found.folder / "config"} is no file')
     found.status, line = chosen.check()
     found.word = line.split(' ')[0] if found.status == 0 else line.removeprefix(f'{found.status} ')
     found.counts = [int(number) for number in line.split(' ')[1:]] if found.status == 0 else []
@@ -121,21 +124,58 @@ def above(value: float, limits: Sequence[float]) -> int:
     return CRITICAL if value > limits[1] else WARNING if value > limits[0] else OK
 
 
+def of_folders(paths: Sequence[str], program: str) -> list[asking.Fault]:
+    """What is to be said of the lists in these folders, with their names: what `watch` says beside the agent's own answer."""
+    now = time.time()
+    return [(status, wire.printable(one.folder.name), what) for one in all_seen(paths, program, WAIT) for status, what in faults(one, now)]
+
+
+def agent_of(words: Sequence[str]) -> tuple[list[str], agents.Settings | None]:
+    """The folders that are asked for, and the settings of the agent that has them: those of a file that is named, whose lists are asked for, or
+    those of this host's agent if each of the folders is of its lists. Settings that are wrong are Refused."""
+    files = [word for word in words if pathlib.Path(word).is_file()]
+    try:
+        if files:
+            chosen = agents.read(files[0])
+            return [word for word in words if word not in files] or [str(chosen.lists)], chosen
+        chosen = agents.read(AGENT)
+    except ValueError as error:
+        if files or pathlib.Path(AGENT).exists() and os.access(AGENT, os.R_OK):
+            raise Refused(WORDS, str(error)) from error
+        return list(words), None
+    here = chosen.lists.resolve()
+    is_its_own = all(here in (path := pathlib.Path(word).resolve(), path.parent) for word in words)
+    return list(words), chosen if is_its_own else None
+
+
 def watch(words: Sequence[str], program: str, wait: float) -> Said:
-    """One line with the worst status, what is wrong with which list, and performance data."""
-    now, every = time.time(), all_seen(words, program, wait)
-    told = [(status, one, what) for one in every for status, what in faults(one, now)]
-    status = worst(status for status, _, _ in told)
-    text = '; '.join(f'{one.folder.name}: {what}' for _, one, what in sorted(told, key=lambda row: -WORST_LAST.index(row[0])))
-    text = text or ('the list is whole' if len(every) == 1 else f'{len(every)} lists are whole')
-    measures = ' '.join(measure for one in every for measure in performance(one, label(one, every), now))
-    data = [{'folder': str(one.folder), 'list': one.address, 'status': NAMES[worst(status for status, which, _ in told if which is one)],
-             'check': one.word, 'what': [what for _, which, what in told if which is one]} for one in every]
-    return Said([f'EZMLM {NAMES[status]} - {plain(text)} | {measures}'], data, status)
+    """What is wrong with which list, and what the agent says that has them, as one line with the worst status, and performance data."""
+    folders_asked, chosen = agent_of(words)
+    heard = asking.ask(chosen) if chosen is not None else asking.Heard(None)
+    now, every = time.time(), all_seen(folders_asked, program, wait)
+    own = [(status, one, what) for one in every for status, what in faults(one, now)]
+    names = {wire.printable(one.folder.name) for one in every}
+    said = [fault for fault in heard.faults if fault[1] in names or not fault[1] or chosen and str(chosen.lists) in folders_asked]
+    told = [*said, *((status, wire.printable(one.folder.name), what) for status, one, what in own)]
+    status = asking.worst(level for level, _, _ in told)
+    good = 'the list is whole' if len(every) == 1 else f'{len(every)} lists are whole'
+    measures = [measure for one in every for measure in performance(one, label(one, every), now)]
+    data = [{'folder': str(one.folder), 'list': one.address, 'check': one.word,
+             'status': asking.NAMES[asking.worst(level for level, which, _ in told if which == wire.printable(one.folder.name))],
+             'what': [what for _, which, what in told if which == wire.printable(one.folder.name)]} for one in every]
+    data += [{'agent': str(chosen.lists), 'status': asking.NAMES[level], 'what': [what]} for level, which, what in said if chosen and not which]
+    return Said(lines_of(plain(asking.line('EZMLM', told, good)), measures), data, status)
 
 
-def worst(statuses: Iterable[int]) -> int:
-    return max(statuses, key=WORST_LAST.index, default=OK)
+def lines_of(text: str, measures: Sequence[str]) -> list[str]:
+    """A plugin's lines, none longer than old monitors read. What the first has no room for of the measures follows after the bar of a further
+    one (Nagios plugin guidelines, performance data of several lines)."""
+    lines, left = [text + ' |'], list(measures)
+    while left:
+        if len((lines[-1] + ' ' + left[0]).encode(errors='replace')) > asking.LINE:
+            lines.append('more |' if len(lines) == 1 else '')
+        lines[-1] += (' ' if lines[-1] else '') + left.pop(0)
+    return lines
 
 
 def plain(text: str) -> str:

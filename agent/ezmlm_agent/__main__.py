@@ -13,7 +13,8 @@ import sys
 from collections.abc import Callable, Iterable
 from typing import TYPE_CHECKING, NoReturn, TextIO
 
-from . import VERSION, check, listening, lists, lmtp, mailing, mails, policy, program, room, settings, smtp, status, wire
+from . import VERSION, asking, check, listening, lists, lmtp, mailing, mails, notify, policy, program, reloading, room, settings, smtp, \
+    standing, status, tended, wire
 
 if TYPE_CHECKING:
     from . import hosts
@@ -35,15 +36,17 @@ class Shown(logging.Formatter):
 
 
 class Agent:
-    def __init__(self, chosen: settings.Settings) -> None:
-        self.settings = chosen
+    def __init__(self, chosen: settings.Settings, path: str) -> None:
+        self.settings, self.path = chosen, path
         self.exchange = smtp.Exchange(chosen.mta, chosen.name, chosen.connections)
         size = chosen.memory << 20
         self.shared = mails.Shared(chosen, program.Program(chosen.program, chosen.runs), self.exchange, wire.Room(size), wire.Room(size))
         self.lists = lists.Lists(chosen, self.take_up)
         self.server = lmtp.Server(chosen.name, self.lists.find, size, chosen.replies, room.Rooms(chosen))
-        self.policy = policy.Policy(self.lists.find)
+        self.policy = policy.Policy(self.lists.find, self.server.replies)
         self.listener = listening.Listener()
+        self.standing = standing.Standing(self.lists, self.exchange)
+        self.reading: asyncio.Task[None] | None = None  # the settings, anew
         self.ended = asyncio.Event()
         self.hosts = hosts_of(chosen, lambda: self.lists.served.values())
 
@@ -55,26 +58,71 @@ class Agent:
     async def run(self) -> None:
         """Serves until it is ended by a signal."""
         loop = asyncio.get_running_loop()
+        loop.set_exception_handler(tended.unexpected)
         for number in (signal.SIGTERM, signal.SIGINT):
             loop.add_signal_handler(number, self.ended.set)
+        loop.add_signal_handler(signal.SIGHUP, self.hang_up)
         if self.hosts and (why := await self.hosts.begin()):
             sys.exit(f'ezmlm-agent: {why}')
-        for address, serve in ((self.settings.listen, self.server.serve), (self.settings.policy, self.policy.serve)):
-            try:
-                if address:
-                    await self.listener.listen(address, serve)
-            except OSError as error:
-                sys.exit(f'ezmlm-agent: {address}: {error}')
+        await self.listen()
         for name in self.listener.unknown():
             log.error('ezmlm-agent.socket has a socket at %s, which no setting names', name)
         log.info('mail comes in at %s', self.settings.listen)
-        tending = asyncio.create_task(self.tend())
+        notify.tell('READY=1')
+        notify.feed()
+        tending = [tended.begun('what is done every minute', self.tend, self.ended.is_set),
+                   tended.begun('the look whether the transfer agent is there', self.look, self.ended.is_set)]
         await self.ended.wait()
         log.info('stops')
-        tending.cancel()
+        notify.tell('STOPPING=1')
+        for task in tending:
+            task.cancel()
         self.listener.close()
         self.policy.stop()
         await self.stop()
+
+    async def listen(self) -> None:
+        """Listens where the settings say, and ends the agent if nobody can. A monitor that can't ask is no reason for that."""
+        try:
+            for address, serve in ((self.settings.listen, self.server.serve), (self.settings.policy, self.policy.serve)):
+                if address:
+                    await self.listener.listen(address, serve)
+        except OSError as error:
+            sys.exit(f'ezmlm-agent: {address}: {error}')
+        try:
+            await self.listener.listen(self.settings.status, self.standing.serve)
+        except OSError as error:
+            log.error('no monitor can ask at %s: %s', self.settings.status, error)
+
+    def hang_up(self) -> None:
+        """SIGHUP came. One that comes while the settings are read is the same."""
+        if self.reading is None or self.reading.done():
+            self.reading = asyncio.create_task(self.read_anew())
+
+    async def read_anew(self) -> None:
+        """Reads the settings anew. Wrong ones are told, and nothing is changed."""
+        notify.tell('RELOADING=1')
+        try:
+            after = await asyncio.to_thread(settings.read, self.path)
+            self.settings, changed, stays = reloading.merged(self.settings, after)
+            self.take(self.settings)
+            log.info('the settings were read anew: %s', f'{", ".join(changed)} changed' if changed else 'nothing that counts at once changed')
+            if stays:
+                log.warning('%s changed, and count%s from a new start on', ', '.join(stays), 's' * (len(stays) == 1))
+        except ValueError as error:
+            log.error('the settings stay as they were: %s', error)
+        finally:
+            notify.tell('READY=1')
+
+    def take(self, chosen: settings.Settings) -> None:
+        """Gives these settings to what goes by them."""
+        self.shared.settings = self.lists.settings = chosen
+        self.shared.program.path = program.Program(chosen.program, 1).path
+        self.server.name, self.server.replies.most = chosen.name, chosen.replies
+        self.exchange.goes_to(chosen.mta, chosen.name)
+        for found in self.lists.served.values():
+            found.settings, found.queue.section = chosen, chosen.by_list.get(found.folder.name)
+            found.queue.changed.set()
 
     async def tend(self) -> None:
         """What is done every minute."""
@@ -86,6 +134,12 @@ class Agent:
             self.exchange.close_unused()
             if self.hosts:
                 self.hosts.look()
+            await asyncio.sleep(LOOKS)
+
+    async def look(self) -> None:
+        """Sees every minute whether the transfer agent is there, so that a monitor hears of it though no mail goes out."""
+        while True:
+            await self.exchange.look()
             await asyncio.sleep(LOOKS)
 
     async def stop(self) -> None:
@@ -156,14 +210,15 @@ def main(words: list[str]) -> NoReturn:
     resource.setrlimit(resource.RLIMIT_NOFILE, (most if 0 <= most < DESCRIPTORS else DESCRIPTORS, most))
     sys.setswitchinterval(SWITCH)
     with alone(chosen.state):
-        asyncio.run(run(chosen))
+        asyncio.run(run(chosen, asked.settings))
     sys.exit(0)
 
 
 def ordered(chosen: settings.Settings, order: str, words: list[str]) -> int:
     """Does what an operator asks. The answer is the status."""
+    name, seen = (words[0] if words else None), status.look(chosen, words[0] if words else None) if order == 'status' else ({}, [])
     if order == 'status' and not chosen.history:
-        return asyncio.run(status.status(chosen, None, words[0] if words else None))
+        return asyncio.run(status.status(chosen, None, name, seen))
     try:
         from . import giving, servers
     except ModuleNotFoundError as error:
@@ -176,7 +231,7 @@ def ordered(chosen: settings.Settings, order: str, words: list[str]) -> int:
             case 'configure':
                 return asyncio.run(giving.configure(chosen, words[0], words[1]))
             case 'status':
-                return asyncio.run(status.status(chosen, giving.opened(chosen), words[0] if words else None))
+                return asyncio.run(status.status(chosen, giving.opened(chosen), name, seen))
             case _:
                 return asyncio.run(giving.forget_host(chosen, words[0]))
     except giving.Refused as error:
@@ -184,7 +239,7 @@ def ordered(chosen: settings.Settings, order: str, words: list[str]) -> int:
         return error.status
     except servers.Lost as error:
         if order == 'status':
-            return status.report([], [(status.CRITICAL, f'the history can\'t be reached: {error}')])
+            return status.report([], [*seen[1], (asking.CRITICAL, '', f'the history can\'t be reached: {error}')])
         print(f'ezmlm-agent: the history can\'t be reached, or changed: {error}', file=sys.stderr)
         return giving.LATER
     except ValueError as error:
@@ -205,9 +260,9 @@ def alone(state: pathlib.Path) -> TextIO:
     return lock
 
 
-async def run(chosen: settings.Settings) -> None:
+async def run(chosen: settings.Settings, path: str) -> None:
     try:
-        agent = Agent(chosen)
+        agent = Agent(chosen, path)
     except ValueError as error:
         print(f'ezmlm-agent: {error}', file=sys.stderr)
         sys.exit(settings.WRONG)

@@ -38,8 +38,7 @@ class Aside:
         future: asyncio.Future[Result] = asyncio.get_running_loop().create_future()
         future.add_done_callback(lambda ended: ended.cancelled() or ended.exception())  # Nobody may ask for it any more.
         begin((future, call, words))
-        done, _ = await asyncio.wait([future], timeout=seconds)
-        if not done:
+        if not await ends(future, seconds):
             self.stuck[of] = self.stuck.get(of, 0) + 1
             future.add_done_callback(lambda _: self.free(of))
             raise Blocked(f'it takes longer than {seconds:g} seconds')
@@ -47,6 +46,25 @@ class Aside:
 
     def free(self, of: str) -> None:
         self.stuck[of] -= 1
+
+
+async def ends(future: 'asyncio.Future[Any]', seconds: float | None) -> bool:
+    """Whether a future ends within so many seconds, by a result or an error. It goes on if not."""
+    loop = asyncio.get_running_loop()
+    waits: asyncio.Future[None] = loop.create_future()
+
+    def wake(_: object = None) -> None:
+        if not waits.done():
+            waits.set_result(None)
+    future.add_done_callback(wake)
+    timer = None if seconds is None else loop.call_later(seconds, wake)
+    try:
+        await waits
+    finally:
+        future.remove_done_callback(wake)
+        if timer is not None:
+            timer.cancel()
+    return future.done()
 
 
 def begin(job: Job) -> None:

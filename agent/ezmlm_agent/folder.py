@@ -115,6 +115,14 @@ def queue(folder: pathlib.Path) -> list[int]:
     return sorted(int(name) for name in names(folder / 'queue') if ENTRY.fullmatch(name))
 
 
+def written(folder: pathlib.Path, entry: int) -> float | None:
+    """When an entry of the outgoing queue was written, or None if it is gone."""
+    try:
+        return os.stat(folder / 'queue' / str(entry)).st_mtime
+    except FileNotFoundError:
+        return None
+
+
 def has_work(folder: pathlib.Path) -> bool:
     """Whether a list has something to do that no mail tells of: entries in its queue, or a log that a run left when it was stopped."""
     return bool(queue(folder)) or size_or_none(folder / 'log') not in (0, 1, None)

@@ -35,6 +35,8 @@ class Attempt:
     is_tried: bool = False  # whether the entry was tried before
     refused: list[tuple[copies.Copy, smtp.Reply]] = dataclasses.field(default_factory=list)  # copies that were refused for good
     put_off: int = 0  # copies that are to be tried again
+    is_hung_up: bool = False  # whether the transfer agent hung up in the middle
+    is_put_off_alone: bool = True  # whether each of these was put off by the reply to its recipient, and not to the mail
 
     def is_hopeless(self) -> bool:
         return not self.is_taken and len(self.refused) >= HOPELESS and self.age < DAY
@@ -56,6 +58,7 @@ class Handing:
     def __init__(self, queue: 'outgoing.Queue') -> None:
         self.queue, self.list = queue, queue.list
         self.exchange: smtp.Exchange = queue.exchange
+        self.attempts: dict[int, Attempt] = {}  # of the entries in hand
 
     async def hand_on(self, entry: int, text: bytes, written: float, verp: bool, is_tried: bool) -> bool:
         """Whether all copies of an entry are done with. `written` is when it came into the queue, and `is_tried` whether it was tried since
@@ -68,12 +71,24 @@ class Handing:
         attempt, rows = attempt_of(*words) if self.queue.section is None else await asyncio.to_thread(attempt_of, *words)
         del text, words
         attempt.is_tried = is_tried
-        ends = await asyncio.gather(*(self.hand_on_row(attempt, *row) for row in rows), return_exceptions=True)
+        self.attempts[entry] = attempt
+        if len(rows) == 1:  # It needs no task of its own.
+            ends: list[BaseException | None] = [await self.ended(attempt, *rows[0])]
+        else:
+            ends = await asyncio.gather(*(self.ended(attempt, *row) for row in rows))
         is_told = await self.tell_refused(attempt)
         for error in ends:
             if isinstance(error, BaseException):
                 raise error
         return is_told and not attempt.put_off
+
+    async def ended(self, attempt: Attempt, sender: bytes, named: bool, row: list[copies.Copy]) -> BaseException | None:
+        """By which error one transaction ended, or None."""
+        try:
+            await self.hand_on_row(attempt, sender, named, row)
+        except Exception as error:
+            return error
+        return None
 
     def mail_of(self, entry: int, elements: Sequence[bytes]) -> bytes:
         """What goes out for an entry's mail: with the fields of its list's section, or as the list wrote it if they can't be put in."""
@@ -98,7 +113,13 @@ class Handing:
                 replies = await self.exchange.hand_on(sender, named, [recipient for _, recipient in row], attempt.mail)
             except smtp.Untouched:
                 if len(row) == 1:
+                    attempt.is_hung_up = True
                     raise
+            except smtp.Away:
+                raise
+            except wire.Gone:
+                attempt.is_hung_up = True
+                raise
             # The connection is free for others when this is noted. So what a crash may double is one transaction for each connection.
             if replies is not None:
                 await self.note(attempt, row, replies)
@@ -111,6 +132,8 @@ class Handing:
         """Notes whose copies were taken, and of which the transfer agent said something else."""
         taken = [recipient for (_, recipient), reply in zip(row, replies) if smtp.is_good(reply)]
         attempt.is_taken = attempt.is_taken or bool(taken)
+        if taken:
+            self.queue.moves()
         for copy, reply in zip(row, replies):
             if smtp.is_good(reply):
                 continue
@@ -119,6 +142,9 @@ class Handing:
                 attempt.refused.append((copy, reply))
             else:
                 attempt.put_off += 1
+                attempt.is_put_off_alone = attempt.is_put_off_alone and reply.is_of_recipient
+                if not taken and not reply.is_of_recipient:
+                    self.queue.waits(f'the transfer agent says {reply.code} {reply.words()}')
         await attempt.kept.hand(attempt.entry, attempt.mark, taken)
 
     async def tell_refused(self, attempt: Attempt) -> bool:

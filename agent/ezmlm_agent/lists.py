@@ -15,6 +15,7 @@ Thing = TypeVar('Thing')
 FRESH = 0.01    # seconds for which what was looked at serves for the address of a list that is known
 SOON = 1.0      # seconds for which mail of a list that is known waits until the folders are looked at
 AT_ONCE = 16    # folders that are read at once
+GONE = 'its folder isn\'t there: mount its disk, or put it back; to be rid of it remove its notes while the agent doesn\'t run'
 NONE = {'lost+found'}  # a file system's own, which the agent's user can't even look into
 
 
@@ -83,6 +84,7 @@ class Lists:
         self.by_address: dict[notes.Address, mailing.MailingList | str] = {}  # a list, or why it can't be served
         self.others: dict[pathlib.Path, Seen] = {}  # folders that have no list, or can't be read
         self.trouble: dict[str, str] = {}  # what is wrong, by the folder's name
+        self.off: dict[str, tuple[float, str]] = {}  # lists whose mail is put off: since when, by the monotonic clock, and why
         self.stamp: Times | None = None    # of the folder of lists when it was looked at
         self.looked = float('-inf')        # when it was last seen that nothing has changed
         self.looking: asyncio.Task[None] | None = None
@@ -164,6 +166,8 @@ class Lists:
         for address, folders in found.items():
             by_address[address] = self.one_of(folders, address, trouble)
         self.by_address, self.stamp = by_address, stamp
+        gone = {name: GONE for name in remembered.keys() - {path.name for path in paths} if isinstance(by_address[remembered[name]], str)}
+        self.off = {name: (self.off.get(name, (time.monotonic(), ''))[0], why) for name, why in (gone | trouble).items()}
         self.tell(trouble)
 
     def folders(self) -> list[pathlib.Path]:

@@ -4,8 +4,9 @@ import asyncio
 import logging
 import re
 from collections.abc import Awaitable, Callable
+from typing import NamedTuple
 
-from . import lists, program, refusals, replies, room, signing, wire
+from . import lists, program, refusals, replies, room, signing, tended, wire
 
 log = logging.getLogger('ezmlm-agent')
 LONGEST_MAIL = 33_554_432  # of a message, with LF at its lines' ends
@@ -14,8 +15,9 @@ LONGEST_PATH = 1000
 MOST_RECIPIENTS = 1000
 MOST_SESSIONS = 1000
 PER_RECIPIENT = 500  # bytes of memory for each, beside its address
+SAID = 4096   # bytes of replies that wait for others, at most
 LEAVING = 10  # seconds for telling the last replies, when the agent stops
-OFTEN = '450 4.7.1 This sender has asked the lists here for too many answers in the last hour; later.'
+DROPPED = program.Answer(0, 'dropped')  # said of a mail that would be one answer too many
 SIZE = re.compile(rb'(?:^| )SIZE=(\d{1,20})(?: |$)', re.IGNORECASE)  # RFC 1870
 
 Find = Callable[[bytes], Awaitable[lists.Named | None]]
@@ -42,11 +44,14 @@ class Server:
         try:
             await session.talk()
         except wire.TooLong:
-            writer.write(b'500 5.5.2 A line is longer than %d bytes.\r\n' % wire.LONGEST_LINE)
+            writer.write(session.said + b'500 5.5.2 A line is longer than %d bytes.\r\n' % wire.LONGEST_LINE)
         except wire.Gone:
             pass
         except asyncio.CancelledError:
-            writer.write(b'421 4.3.2 The agent stops.\r\n')
+            writer.write(session.said + b'421 4.3.2 The agent stops.\r\n')
+        except Exception as error:  # Whatever it is, the mail comes again, and other connections go on.
+            log.error('a connection of LMTP ended by an error: %s', tended.told(error))
+            writer.write(session.said + b'421 4.3.0 The agent has an error, which its log tells.\r\n')
         finally:
             self.sessions.discard(task)
             session.forget()
@@ -63,24 +68,31 @@ class Server:
             await asyncio.wait(self.sessions, timeout=LEAVING)
 
 
+class Recipient(NamedTuple):
+    """A recipient, and what its answer counts for, or None if it would be one too many."""
+    named: lists.Named
+    address: bytes
+    counted: replies.Keys | None
+
+
 class Session:
     """One connection."""
 
     def __init__(self, server: Server, connection: wire.Wire) -> None:
         self.server, self.wire = server, connection
         self.is_greeted = False
-        self.held = 0
-        self.counted = 0  # recipients that a list would answer, and that weren't answered yet
+        self.held, self.said = 0, b''  # what is said together with what follows
         self.sender: bytes | None = None
-        self.recipients: list[tuple[lists.Named, bytes]] = []
+        self.recipients: list[Recipient] = []  # that weren't answered yet
         self.commands: dict[bytes, Callable[[bytes], Awaitable[None]]] = {
             b'LHLO': self.hello, b'MAIL': self.mail, b'RCPT': self.rcpt, b'DATA': self.data, b'RSET': self.reset, b'NOOP': self.noop}
         self.forget()
 
     def forget(self) -> None:
         """There is no mail in hand."""
-        self.server.replies.give_back(self.sender or b'', self.counted)
-        self.counted, self.sender, self.recipients, self.size = 0, None, [], 0
+        for recipient in self.recipients:
+            self.server.replies.give_back(recipient.counted or ())
+        self.sender, self.recipients, self.size = None, [], 0
         self.give_room()
 
     async def talk(self) -> None:
@@ -89,12 +101,22 @@ class Session:
             line = await self.wire.line()
             word = line.split(b' ', 1)[0].upper()
             if word == b'QUIT':
-                return await self.say('221 2.0.0 Bye')
+                await self.say('221 2.0.0 Bye')
+                return await self.flush()
             await self.commands.get(word, self.unknown)(line)
         await self.say('421 4.3.2 The agent stops.')
+        await self.flush()
 
     async def say(self, *lines: str) -> None:
-        await self.wire.say(b''.join(line.encode('utf-8', 'replace') + b'\r\n' for line in lines))
+        """Says lines, together with those that follow if their commands are there already (RFC 2920 3.2)."""
+        self.said += b''.join(line.encode('utf-8', 'replace') + b'\r\n' for line in lines)
+        if b'\n' not in self.wire.read or len(self.said) > SAID:
+            await self.flush()
+
+    async def flush(self) -> None:
+        said, self.said = self.said, b''
+        if said:
+            await self.wire.say(said)
 
     async def unknown(self, _: bytes) -> None:
         await self.say('500 5.5.1 Unknown command')
@@ -141,13 +163,9 @@ class Session:
             return await self.say('550 5.1.1 There is no list of this address.')
         if await self.server.rooms.lacks(found.list.folder, found.list.threads):
             return await self.say(room.FULL)
-        if replies.is_answered(found.rest) and self.sender:
-            if not self.server.replies.take(self.sender):
-                return await self.say(OFTEN)
-            self.counted += 1
         if not self.take_room(len(recipient) + PER_RECIPIENT):
             return await self.say(refusals.CROWDED)
-        self.recipients.append((found, recipient))
+        self.recipients.append(Recipient(found, recipient, await self.server.replies.take(found, self.sender)))
         await self.say('250 2.1.5 Ok')
 
     def take_room(self, size: int) -> bool:
@@ -173,6 +191,7 @@ class Session:
         if not self.recipients:
             return await self.say('503 5.5.1 There is no recipient')
         await self.say('354 End with a dot alone')
+        await self.flush()
         sent, refused = await self.wire.mail(self.refusal)
         message = wire.with_line_feeds(sent) if sent is not None else b''
         del sent
@@ -186,19 +205,24 @@ class Session:
         """The replies by the lists' answers, which are waited for even when the agent stops."""
         sender, task = self.sender or b'', asyncio.current_task()
         assert task
-        given = asyncio.gather(*(given_to(named, sender, recipient, message) for named, recipient in self.recipients))
+        given = asyncio.gather(*(given_to(recipient, sender, message) for recipient in self.recipients))
         self.server.answering.add(task)
         try:
             answers = await given
         finally:
             self.server.answering.discard(task)
-        rests = [named.rest for named, _ in self.recipients]
-        self.counted -= sum(replies.is_answered(rest) and is_mailed(answer) for rest, answer in zip(rests, answers)) if sender else 0
-        return [refusals.reply_for(answer, rest) for answer, rest in zip(answers, rests)]
+        texts = [refusals.reply_for(answer, recipient.named.rest) for answer, recipient in zip(answers, self.recipients)]
+        self.recipients = [recipient for answer, recipient in zip(answers, self.recipients) if not is_mailed(answer)]
+        return texts
 
 
-async def given_to(named: lists.Named, sender: bytes, recipient: bytes, message: bytes) -> program.Answer:
-    """The list's answer to a mail. One by which `--check` looks for signatures isn't given to the list."""
+async def given_to(to: Recipient, sender: bytes, message: bytes) -> program.Answer:
+    """The list's answer to a mail. One that would be an answer too many isn't given to the list, and one by which `--check` looks for
+    signatures neither."""
+    named, recipient, counted = to
+    if counted is None:
+        log.info('%s - %s %s: dropped: its sender has asked for too many answers', named.list.name, wire.shown(sender), wire.shown(recipient))
+        return DROPPED
     number = signing.number_of(named.rest)
     if number is None:
         return await named.list.receive(sender, recipient, named.rest, message)

@@ -11,14 +11,13 @@ import zlib
 from collections.abc import Callable
 from typing import TypeVar
 
-from . import aside, folder, mails, notes, outgoing, program, retrying, weed, wire
+from . import aside, folder, mails, notes, outgoing, program, retrying, tended, timed, weed, wire
 
 Result = TypeVar('Result')
 log = logging.getLogger('ezmlm-agent')
 GATHERING = 0.02, 0.1  # seconds for which mails, and reports alone, wait for others
 HOUR, DAY = 3600, 86400
 OPEN = 1  # seconds for which a run goes while mail comes
-STEP = 512_000  # by which the floor may rise at once
 PATIENT = 2.0  # seconds for which a list without mail has its turn to begin, or for its timed run
 ENDING = 10    # seconds until a run that nobody waits for any more is ended, when the agent stops
 
@@ -46,7 +45,7 @@ class MailingList:
         self.queue = outgoing.Queue(self, shared.exchange, shared.room)
 
     def start(self) -> None:
-        self.task = asyncio.create_task(self.work())
+        self.task = tended.begun(f'{self.name}: its worker', self.work, lambda: self.ended)
         self.queue.start()
         self.wait_for_hour()
 
@@ -55,9 +54,9 @@ class MailingList:
         self.hour = asyncio.get_running_loop().call_later((own_second(self.folder.name) - time.time()) % HOUR or HOUR, self.strike)
 
     def strike(self) -> None:
+        self.wait_for_hour()
         self.is_due = True
         self.wake.set()
-        self.wait_for_hour()
 
     def hurry(self) -> None:
         """No more is handed on than what is in hand, and a list that another run has isn't waited for."""
@@ -128,6 +127,8 @@ class MailingList:
     def give_up(self, mail: mails.Mail) -> None:
         """Nobody waits for a mail any more. If a run has it in hand its bytes count, so that runs which hang don't fill the memory."""
         mail.settle(self.health.ending())
+        if self.health.fault is None:
+            self.health.fails('a run of the program hangs, or takes longer than mail waits')
         if mail in self.waiting:
             self.waiting.remove(mail)
         elif self.running and self.shared.stuck.take(len(mail.message)):
@@ -137,6 +138,8 @@ class MailingList:
 
     async def work(self) -> None:
         """Gives the list what waits, as long as there is an agent. Nothing else gives it items."""
+        if self.waiting or self.is_due:  # It is begun anew.
+            self.wake.set()
         last = False
         while not last:
             await self.wake.wait()
@@ -157,6 +160,10 @@ class MailingList:
         batch = mails.first_of(self.waiting)
         try:
             await self.serve(batch)
+            if self.health.wants_check():
+                async with self.turn:
+                    status, _ = await self.program.run(self.folder, 'check')
+                self.health.checked(status)
         except Exception as error:
             await self.fail(batch, error)
 
@@ -224,8 +231,10 @@ class MailingList:
         items = await self.items(opened, batch)
         items += [program.Item(program.item(b'S', 0, now, entry), functools.partial(self.reported, entry)) for entry in self.queue.handed_on]
         if self.is_due and not self.stopping:
+            items += await timed.items(self, opened, now)
             self.is_due = False
-            items += await self.timed(opened, now)
+        if not items and self.health.fault:  # Whether the list works again is seen by an item that does nothing.
+            items = [program.Item(program.FILL, lambda _: None)]
         await self.run(opened, items)
         if self.load.stale:
             await opened.forget(self.load.stale, await self.reading(folder.after_answers))
@@ -264,8 +273,10 @@ class MailingList:
         more = functools.partial(self.more, opened)
         while items:
             async with self.turn:
-                items, ending = await self.program.spool(self.folder, items, more, self.began)
-                self.began(None)
+                try:
+                    items, ending = await self.program.spool(self.folder, items, more, self.began)
+                finally:
+                    self.began(None)
             if not items:
                 return self.health.works()
             if ending.status != program.HELD or not await patience.lasts(ending.status):
@@ -290,19 +301,6 @@ class MailingList:
     def reported(self, entry: int, answer: program.Answer) -> None:
         if answer.is_answer:
             self.queue.has_left(entry)
-
-    async def timed(self, opened: notes.Notes, now: int) -> list[program.Item]:
-        """A timed run, and the floor: mails that can't come again are forgotten, by the notes and then by the list."""
-        def settle(answer: program.Answer) -> None:
-            if answer.is_answer:
-                log.info('%s: %d %s', self.name, answer.status, answer.words)
-            else:
-                self.is_due = True
-        lowest = await opened.forget_before(now - self.settings.keep_days * DAY)
-        floor = await self.aside(folder.floor, self.folder)
-        floors = [*range(floor + STEP, lowest, STEP), lowest] if lowest > max(floor, notes.FIRST) else []
-        return [program.Item(program.item(b'T', 0, now), settle),
-                *(program.Item(program.item(b'F', 0, now, floor), settle) for floor in floors)]
 
     async def fail(self, batch: list[mails.Mail], error: Exception) -> None:
         """Whatever it is, the mail comes again, and the other lists go on."""

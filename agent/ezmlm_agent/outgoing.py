@@ -8,7 +8,7 @@ import time
 from collections.abc import Iterable
 from typing import TYPE_CHECKING
 
-from . import folder, handing, sections, smtp, wire
+from . import apart, folder, handing, parked, sections, smtp, tended, wire
 
 if TYPE_CHECKING:
     from . import mailing
@@ -42,9 +42,13 @@ class Queue:
         self.handed_on: set[int] = set()  # entries that were, until the list knows it
         self.left: set[int] = set()       # entries that left the queue, until the notes forget them
         self.later: dict[int, tuple[float, float]] = {}  # entries that are tried again: when, and after how many seconds then
+        self.apart = apart.Apart(self)
+        self.refused_alone: set[int] = set()  # of those, which wait since the transfer agent puts off their recipients by themselves
+        self.stands: tuple[int, float | None] = 0, None  # entries when it was last looked, and when the oldest of them was written
+        self.fault: tuple[float, str] | None = None  # since when something waits and nothing is handed on, by the monotonic clock, and why
 
     def start(self) -> None:
-        self.task = asyncio.create_task(self.work())
+        self.task = tended.begun(f'{self.list.name}: its queue', self.work, lambda: self.list.stopping)
 
     def has_left(self, entry: int) -> None:
         self.handed_on.discard(entry)
@@ -61,6 +65,7 @@ class Queue:
                 pause = SHORTEST
             except Exception as error:  # Whatever it is, the other lists go on.
                 self.list.said_out.say(f'nothing is handed on: {type(error).__name__}: {error}')
+                self.waits(f'{type(error).__name__}: {error}')
                 await self.wait(pause)
                 begun, pause = True, min(2 * pause, LOOKS)
             else:
@@ -107,10 +112,15 @@ class Queue:
     async def begin(self) -> bool:
         """Begins with the entries that are due and have room in memory. The answer is whether there are any."""
         if self.list.copies() is None:  # A list that has nothing to do isn't begun with.
+            self.fault = None
             if self.list.notes is None and await self.list.aside(folder.has_work, self.folder):
                 self.list.wake.set()
             return False
-        due = self.due(await self.list.aside(folder.queue, self.folder))
+        entries, stamp, oldest = await self.list.aside(self.look)
+        self.stands = len(entries), oldest
+        await self.apart.refresh(stamp)
+        due = self.due(entry for entry in entries if entry not in self.apart.found)
+        self.sees(entries)
         sizes = self.reserved(await self.list.aside(folder.sizes, self.folder, due) if due else {})
         begun: list[int] = []
         texts: dict[int, tuple[bytes, float]] = {}
@@ -125,6 +135,29 @@ class Queue:
         for entry in begun:
             self.in_hand[entry] = asyncio.create_task(self.hand_on(entry, *texts[entry], verp, sizes[entry]))
         return bool(begun)
+
+    def look(self) -> tuple[list[int], parked.Stamp, float | None]:
+        """The queue's entries, whether one was set aside or given again, and when the oldest entry was written."""
+        entries = folder.queue(self.folder)
+        return entries, parked.stamp(self.apart.path), folder.written(self.folder, entries[0]) if entries else None
+
+    # Whether it goes on.
+
+    def moves(self) -> None:
+        """A copy was handed on."""
+        self.fault = None
+
+    def waits(self, why: str) -> None:
+        """Something waits, and nothing of it was handed on. Since when stays, until it is."""
+        self.fault = self.fault[0] if self.fault else time.monotonic(), why
+
+    def sees(self, entries: Iterable[int]) -> None:
+        """Notes whether something waits. What is set aside doesn't, nor what the transfer agent puts off for its recipient's sake alone."""
+        waiting = set(entries) - self.handed_on - self.apart.found.keys() - self.refused_alone
+        if not waiting:
+            self.fault = None
+        elif self.fault is None:
+            self.waits('it isn\'t taken')
 
     def read(self, path: pathlib.Path, ids: Iterable[int]) -> dict[int, tuple[bytes, float]]:
         """These entries with their times, and the list's options if its section asks for them."""
@@ -150,20 +183,25 @@ class Queue:
 
     async def hand_on(self, entry: int, text: bytes, written: float, verp: bool, size: int) -> None:
         """Hands an entry's copies on, except those that were before, and has it reported when all are."""
+        done = False
         try:
             async with self.at_once:
                 done = await self.handing.hand_on(entry, text, written, verp, entry in self.later)
         except Exception as error:  # Whatever it is, the entry stays, and the others go on.
             log.error('%s: entry %d stays: %s: %s', self.list.name, entry, type(error).__name__, error)
             self.list.heed(error)
-            done = False
-        self.room.give(size)
-        del self.in_hand[entry]
-        if done:
-            self.later.pop(entry, None)
-            self.handed_on.add(entry)
-            self.list.report()
-        else:
-            self.put_off(entry)
-        if self.has_more or not done:  # Else what comes next comes by a run of the program, after which the queue is looked at.
-            self.changed.set()
+            self.waits(f'{type(error).__name__}: {error}')
+            await self.apart.hung_up(self.handing.attempts.get(entry), str(error))
+        finally:
+            self.room.give(size)
+            del self.in_hand[entry]
+            attempt = self.handing.attempts.pop(entry, None)
+            (self.refused_alone.add if attempt and attempt.put_off and attempt.is_put_off_alone else self.refused_alone.discard)(entry)
+            if done:
+                self.later.pop(entry, None)
+                self.handed_on.add(entry)
+                self.list.report()
+            else:
+                self.put_off(entry)
+            if self.has_more or not done:  # Else what comes next comes by a run of the program, after which the queue is looked at.
+                self.changed.set()

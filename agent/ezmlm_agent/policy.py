@@ -7,7 +7,7 @@ import asyncio
 import functools
 import logging
 
-from . import envelope, folder, lists, lmtp, refusals, wire
+from . import envelope, folder, lists, lmtp, refusals, replies, tended, wire
 
 log = logging.getLogger('ezmlm-agent')
 MOST_LINES = 200  # of a request
@@ -19,8 +19,8 @@ JUDGING = 2  # seconds in which it must be told what a list refuses
 class Policy:
     """Answers each request with an action: a refusal, or DUNNO for all else and if it can't be told."""
 
-    def __init__(self, find: lmtp.Find) -> None:
-        self.find = find
+    def __init__(self, find: lmtp.Find, counted: replies.Replies) -> None:
+        self.find, self.replies = find, counted
         self.sessions: set[asyncio.Task[None]] = set()
 
     async def serve(self, reader: asyncio.StreamReader, writer: asyncio.StreamWriter) -> None:
@@ -35,6 +35,8 @@ class Policy:
                 await connection.say(b'action=%b\n\n' % (await self.action(asked)).encode())
         except (wire.Gone, asyncio.CancelledError):
             pass
+        except Exception as error:  # Whatever it is, Postfix asks again, and other connections go on.
+            log.error('a connection of the policy service ended by an error: %s', tended.told(error))
         finally:
             self.sessions.discard(task)
             writer.close()
@@ -47,6 +49,8 @@ class Policy:
         try:
             named = await self.find(recipient)
             word = await judge(named, sender) if named else None
+            if named and word is None and await self.replies.wanted(named, sender) is None:
+                word = 'often'
         except lists.Unavailable:
             return 'DUNNO'
         except Exception as error:  # Whatever it is, the list decides.
@@ -55,7 +59,7 @@ class Policy:
         if named is None or word is None:
             return 'DUNNO'
         log.info('%s - %s %s: refused by policy: %s', named.list.name, wire.shown(sender), wire.shown(recipient), word)
-        return refusals.refusal_for(word, named.rest)
+        return replies.OFTEN if word == 'often' else refusals.refusal_for(word, named.rest)
 
     def stop(self) -> None:
         for task in self.sessions:

@@ -4,11 +4,14 @@ import asyncio
 import collections
 import contextlib
 import dataclasses
+import logging
 import os
 import pathlib
 from collections.abc import Awaitable, Callable
 
-from . import aside
+from . import aside, tended
+
+log = logging.getLogger('ezmlm-agent')
 
 
 def netstring(content: bytes) -> bytes:
@@ -150,8 +153,12 @@ class Run:
                 self.told(answer_of(line.rstrip(b'\n')))
         except (ValueError, IndexError):
             self.ending = Ending(71, f'{line[:80]!a} is no answer')
-        self.is_over = True
-        self.answered.set()
+        except Exception as error:  # Whatever it is, what has no answer yet is given again.
+            log.error('an answer couldn\'t be taken: %s', tended.told(error))
+            self.ending = Ending(71, 'the agent couldn\'t take its answer')
+        finally:
+            self.is_over = True
+            self.answered.set()
 
     def told(self, answer: Answer) -> None:
         if self.ending:

@@ -7,7 +7,7 @@ import time
 from collections.abc import Callable
 from typing import TYPE_CHECKING
 
-from . import aside, program, trouble
+from . import aside, program, tended, trouble
 
 if TYPE_CHECKING:
     from . import mailing
@@ -23,6 +23,7 @@ class Again:
     def __init__(self, wake: Callable[[], object]) -> None:
         self.wake, self.pause = wake, SHORTEST
         self.timer: asyncio.TimerHandle | None = None
+        self.has_rung = False  # whether the list is to be tried again now
 
     def failed(self) -> None:
         if self.timer is None:
@@ -31,6 +32,7 @@ class Again:
 
     def due(self) -> None:
         self.timer = None
+        self.has_rung = True
         self.wake()
 
     def worked(self) -> None:
@@ -74,11 +76,33 @@ class Health:
         self.folder, self.threads = folder, threads
         self.said, self.again = Said(name), Again(wake)
         self.cause: trouble.Cause | None = None
+        self.fault: tuple[float, str] | None = None   # since when the list puts mail off, by the monotonic clock, and why
+        self.damage: tuple[float, str] | None = None  # the same for a damaged file: what doesn't read that file works all the time
+
+    def fails(self, why: str) -> None:
+        """Notes why the list puts mail off. Since when stays, until it works."""
+        self.fault = self.fault[0] if self.fault else time.monotonic(), why
 
     def works(self) -> None:
-        self.cause = None
-        self.said.worked()
-        self.again.worked()
+        self.cause = self.fault = None
+        if self.damage is None:
+            self.said.worked()
+            self.again.worked()
+        else:
+            self.again.failed()
+
+    def wants_check(self) -> bool:
+        """Whether it is to be seen now if a damaged file was mended."""
+        has_rung, self.again.has_rung = self.again.has_rung, False
+        return has_rung and self.damage is not None
+
+    def checked(self, status: int) -> None:
+        """What the program's `check` ended with, of a list that had a damaged file."""
+        if status == 0:
+            self.damage = None
+            self.works()
+        else:
+            self.again.failed()
 
     def ending(self) -> program.Ending:
         """Why a mail has no answer yet."""
@@ -90,8 +114,13 @@ class Health:
         """Looks why a run ended so, in a thread: the disk may be what hangs."""
         try:
             self.cause = await self.threads.call('folder', trouble.of_ending, self.folder, ending.status, ending.words)
-        except aside.Blocked as error:
-            self.cause = trouble.Cause(str(error), self.folder, 'look at its disk')
+        except Exception as error:  # Whatever it is, the list is tried again.
+            self.cause = trouble.Cause(str(error) or type(error).__name__, self.folder, 'look at its disk')
+        why = f'{ending.status} {ending.words}: {self.cause}'
+        if ending.status == 75 and ending.words != 'nolist':
+            self.damage = self.damage[0] if self.damage else time.monotonic(), why
+        else:
+            self.fails(why)
         return self.cause
 
     async def say(self, ending: program.Ending, more: str = '') -> None:
@@ -103,10 +132,16 @@ class Health:
         self.again.failed()
 
     async def failed(self, error: Exception, state: pathlib.Path) -> program.Ending:
-        """The list couldn't be read, or its notes not be written. The answer is what its mail is told."""
+        """The list couldn't be read, or its notes not be written. The answer is what its mail is told. It always has one: the look why it failed
+        may fail too, as on a disk that is gone."""
         cause = error.cause if isinstance(error, Refused) else None
-        cause = cause or await self.threads.call('notes', trouble.of_error, state, error)
-        self.said.say(str(cause) if cause else f'{type(error).__name__}: {error}')
+        try:
+            cause = cause or await self.threads.call('notes', trouble.of_error, state, error)
+        except Exception as why:
+            cause = trouble.Cause(f'{tended.told(error)}, and the look why ended so: {why or type(why).__name__}', state, 'look at its disk')
+        words = str(cause) if cause else tended.told(error)
+        self.fails(words)
+        self.said.say(words)
         self.again.failed()
         return program.Ending(75, f'the agent can\'t write its notes or read the list{f": {cause.what}" if cause else ""}')
 

@@ -80,6 +80,7 @@ class Settings:
     weed: bool = setting(is_yes, True)          # whether mail that a machine sent is kept from return addresses and requests
     auto_posts: str = setting(posts, 'take')    # what is done with posts that a machine sent
     replies: int = setting(int, 20)             # answers that one sender gets in an hour; 0 for any number
+    status: str = setting(str, '')              # where a monitor asks: a socket's path, or HOST:PORT of loopback; else STATE/status
     policy: str = setting(str, '')              # where Postfix asks what a list refuses by the envelope: as listen, or nowhere
     sends_from: tuple[str, ...] = setting(senders, ())  # the transfer agent's addresses as the world sees them; for --check
     resolver: str = setting(asked, '')          # whom --check asks: ADDRESS or ADDRESS:PORT; without it those of /etc/resolv.conf
@@ -115,7 +116,7 @@ def read(path: str) -> Settings:
         check(chosen)
     except ValueError as error:
         raise ValueError(f'{path}: {error}') from error
-    return dataclasses.replace(chosen, name=chosen.name or socket.gethostname())
+    return dataclasses.replace(chosen, name=chosen.name or socket.gethostname(), status=chosen.status or str(chosen.state / 'status'))
 
 
 def check(chosen: Settings) -> None:
@@ -132,7 +133,7 @@ def check(chosen: Settings) -> None:
     for name in ('replies', 'reserve', 'reserve_inodes'):
         if getattr(chosen, name) < 0:
             raise ValueError(f'{name} is below 0')
-    for address in (chosen.listen, chosen.policy):
+    for address in (chosen.listen, chosen.policy, chosen.status):
         if address and not is_near(address):
             raise ValueError(f'{address} is not loopback, and whoever reaches the agent can give it mail')
 

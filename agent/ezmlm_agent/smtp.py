@@ -1,6 +1,7 @@
 """Mail out, by SMTP (RFC 5321), over connections that stay; and with XVERP, by which Postfix names each recipient in its sender."""
 
 import asyncio
+import contextlib
 import re
 import time
 from collections.abc import AsyncIterator, Sequence
@@ -10,12 +11,17 @@ from . import settings, wire
 
 STAYS = 60       # seconds for which a connection that isn't used stays
 CONNECTING = 30  # seconds
+LOOKS = 150      # seconds after which it is seen whether the transfer agent is there though no mail goes out
 TAKING = 600     # seconds until a mail that was sent is taken (RFC 5321 4.5.3.2.6)
 MOST_LINES = 100  # of a reply
 
 
 class Untouched(wire.Gone):
     """The connection ended before any of the mail was sent over it, so nobody got it."""
+
+
+class Away(wire.Gone):
+    """The transfer agent can't be reached, or doesn't greet."""
 
 
 class Reply(NamedTuple):
@@ -42,7 +48,7 @@ async def connect(address: str) -> 'Connection':
                 return Connection(*await asyncio.open_unix_connection(where))
             return Connection(*await asyncio.open_connection(*where))
     except OSError as error:
-        raise wire.Gone(f'{address}: {error or "no answer"}') from error
+        raise Away(f'{address}: {error or "no answer"}') from error
 
 
 class Connection:
@@ -51,6 +57,7 @@ class Connection:
         self.extensions: set[str] = set()
         self.used = time.monotonic()
         self.is_open = True
+        self.address = ''  # of the transfer agent, as the settings have it
 
     async def reply(self, seconds: float = wire.QUIET) -> Reply:
         """A reply: its code and its text. By 421 the other side says that it hangs up."""
@@ -93,7 +100,10 @@ class Connection:
         return [b' '.join(words) + b'\r\n', *(b'RCPT TO:<%b>\r\n' % wire.quoted(recipient) for recipient in recipients)]
 
     async def propose(self, commands: Sequence[bytes]) -> tuple[list[Reply], Reply | None]:
-        """The replies for the recipients, and the one to DATA, or None if nobody is to have the mail."""
+        """The replies for the recipients, and the one to DATA, or None if nobody is to have the mail. DATA goes out with the others if they go
+        together (RFC 2920 3.1)."""
+        if 'PIPELINING' in self.extensions:
+            return await self.propose_together(commands)
         replies: list[Reply] = []
         is_first = True
         async for reply in self.ask(commands):
@@ -110,6 +120,23 @@ class Connection:
         if reply.code < 400 and reply.code != 354:
             raise wire.Gone(f'said {reply.code} to DATA')
         return replies, reply
+
+    async def propose_together(self, commands: Sequence[bytes]) -> tuple[list[Reply], Reply | None]:
+        await self.wire.say(b''.join(commands) + b'DATA\r\n')
+        first = await self.reply()
+        if not is_good(first):
+            self.is_open = False  # Whatever it says to the other commands, it is said without a sender.
+            return [first] * (len(commands) - 1), None
+        replies = [(await self.reply())._replace(is_of_recipient=True) for _ in commands[1:]]
+        reply = await self.reply()
+        if reply.code < 400 and reply.code != 354:
+            raise wire.Gone(f'said {reply.code} to DATA')
+        if any(map(is_good, replies)):
+            return replies, reply
+        if reply.code == 354:  # It waits for a mail to nobody.
+            await self.wire.say(b'.\r\n')
+            await self.reply(TAKING)
+        return replies, None
 
     async def hand_on(self, sender: bytes, named: bool, recipients: Sequence[bytes], mail: bytes) -> list[Reply]:
         """The reply for each recipient. `mail` is what is sent for a mail."""
@@ -141,16 +168,48 @@ class Exchange:
         self.kept: list[Connection] = []
         self.extensions: set[str] = set()
         self.has_taken = False  # whether it took any copy so far
+        self.heard = 0.0  # when it last greeted or answered, by the monotonic clock
+        self.fault: tuple[float, str] | None = None  # since when it can't be reached, and why
+        self.hung_up: set[object] = set()  # whose mail it hung up on since it last took any
 
     async def fresh(self) -> Connection:
+        begun = time.monotonic()
+        try:
+            connection = await self.greeted()
+        except wire.Gone as error:
+            self.fault = self.fault[0] if self.fault else begun, str(error)
+            raise Away(str(error)) from error
+        self.extensions, self.heard, self.fault = connection.extensions, time.monotonic(), None
+        return connection
+
+    async def greeted(self) -> Connection:
         connection = await connect(self.address)
+        connection.address = self.address
         try:
             await connection.greet(self.name)
         except BaseException:
             connection.wire.close()
             raise
-        self.extensions = connection.extensions
         return connection
+
+    def goes_to(self, address: str, name: str) -> None:
+        """From now on mail is handed on there, under this name."""
+        if (address, name) != (self.address, self.name):
+            self.address, self.name, self.fault, self.heard = address, name, None, 0.0
+            self.close_unused(0)
+
+    async def look(self) -> None:
+        """Sees whether the transfer agent is there, unless that was seen a short time ago, or all connections to it are at work."""
+        if (self.fault or time.monotonic() - self.heard > LOOKS) and not self.free.locked():
+            with contextlib.suppress(wire.Gone):
+                async with self.free:
+                    self.kept.append(await self.fresh())
+
+    def hangs_up(self, whose: object) -> bool:
+        """Notes that it hung up on somebody's mail. The answer is whether it hung up on no other since it last took any: then it is this mail's
+        fault, as far as can be told, and not the transfer agent's."""
+        self.hung_up.add(whose)
+        return self.hung_up == {whose}
 
     def used(self) -> Connection | None:
         """A connection that was used before, or None."""
@@ -186,9 +245,12 @@ class Exchange:
         except BaseException:
             connection.wire.close()
             raise
-        if connection.is_open:
+        if connection.is_open and connection.address == self.address:
             self.kept.append(connection)
         else:
             connection.close()
-        self.has_taken = self.has_taken or any(map(is_good, replies))
+        self.heard = time.monotonic()
+        if any(map(is_good, replies)):
+            self.has_taken = True
+            self.hung_up.clear()
         return replies

@@ -1,20 +1,21 @@
 """How the lists stand, in lines and with a status as plugins of monitors have them (Nagios plugin guidelines)."""
 
+import contextlib
 import dataclasses
-import fcntl
+import importlib
 import os
 import pathlib
+import pwd
 import time
-from collections.abc import Iterator, Sequence
-from typing import TYPE_CHECKING
+from collections.abc import Iterable, Iterator, Sequence
+from typing import TYPE_CHECKING, Any
 
-from . import comparing, folder, settings, wire
+from . import asking, comparing, folder, settings, wire
+from .asking import CRITICAL, OK, UNKNOWN, WARNING
 
 if TYPE_CHECKING:
     from . import history
 
-OK, WARNING, CRITICAL = range(3)
-NAMES = 'OK', 'WARNING', 'CRITICAL'
 LATE = 60, 3600        # seconds for which the first item that a host hasn't answered may wait: with more it is a warning, or critical
 QUEUED = 3600, 86400   # seconds for which an entry may stand in the queue
 
@@ -83,16 +84,14 @@ def told(one: Standing, now: float) -> Iterator[str]:
         yield f'{one.name}: {host.name} at item {host.place}, {behind}, {compared}' + ('' if host.is_there else ', not there')
 
 
-def report(every: Sequence[Standing], others: Sequence[tuple[int, str]] = ()) -> int:
+def report(every: Sequence[Standing], others: Sequence[asking.Fault] = ()) -> int:
     """Prints how the lists stand, after a line with the worst of it. The answer is its status."""
-    found = [*others, *((status, f'{one.name}: {what}') for one in every for status, what in faults(one))]
-    worst = max((status for status, _ in found), default=OK)
-    what = '; '.join(text for _, text in sorted(found, key=lambda row: -row[0])) or f'{len(every)} list{"s" * (len(every) != 1)}'
-    print(f'EZMLM-AGENT {NAMES[worst]} - {what}')
+    found = [*others, *((status, one.name, what) for one in every for status, what in faults(one))]
+    print(asking.line('EZMLM-AGENT', dict.fromkeys(found), f'{len(every)} list{"s" * (len(every) != 1)}'))
     for one in every:
         for line in told(one, time.time()):
             print(line)
-    return worst
+    return asking.worst(level for level, _, _ in found)
 
 
 def queue_of(path: pathlib.Path, now: float) -> Queue:
@@ -109,42 +108,70 @@ def queue_of(path: pathlib.Path, now: float) -> Queue:
         return Queue(wrong=f'its queue can\'t be read: {wire.printable(str(error))}')
 
 
-def here(chosen: settings.Settings) -> tuple[dict[str, Queue], list[tuple[int, str]]]:
-    """The queues of the lists that this host has, and what is wrong with this host."""
+def here(chosen: settings.Settings, heard: asking.Heard) -> tuple[dict[str, Queue], list[asking.Fault]]:
+    """The queues of the lists that this host has, and what is wrong with it. Who may not look into the folders hears what the agent knows."""
     queues: dict[str, Queue] = {}
-    wrong = [] if is_running(chosen) else [(CRITICAL, 'no agent runs here')]
+    wrong = list(heard.faults)
     try:
         for path in sorted(chosen.lists.iterdir()):
             if path.name != 'lost+found' and (path / 'config').exists():
                 queues[wire.printable(path.name)] = queue_of(path, time.time())
+    except PermissionError as error:
+        queues = {name: Queue(*queue) for name, queue in (heard.queues or {}).items()}
+        if heard.queues is None:
+            wrong.append((UNKNOWN, '', wire.printable(str(error))))
     except OSError as error:
-        wrong.append((CRITICAL, wire.printable(str(error))))
+        wrong.append((CRITICAL, '', wire.printable(str(error))))
     return queues, wrong
 
 
-def is_running(chosen: settings.Settings) -> bool:
-    """Whether an agent of these settings runs: it has the lock of its state."""
+def of_folders(chosen: settings.Settings, names: Iterable[str]) -> list[asking.Fault]:
+    """What `ezmlm-admin watch` says of these lists by their folders. Where it isn't installed nothing is said."""
     try:
-        with open(chosen.state / 'lock', encoding='ascii') as lock:
-            fcntl.flock(lock, fcntl.LOCK_SH | fcntl.LOCK_NB)
-        return False
-    except BlockingIOError:
-        return True
-    except OSError:
-        return False
+        monitoring: Any = importlib.import_module('ezmlm_admin.monitoring')
+    except ModuleNotFoundError:
+        return []
+    paths = [str(path) for path in sorted(chosen.lists.iterdir()) if wire.printable(path.name) in names and os.access(path, os.R_OK | os.X_OK)]
+    found: list[asking.Fault] = monitoring.of_folders(paths, chosen.program) if paths else []
+    return found
 
 
-async def status(chosen: settings.Settings, past: 'history.History | None', name: str | None) -> int:
-    """Prints how the lists stand, or one of them. The answer is 0, or 1 if something should be looked at, or 2 if it must be."""
-    queues, wrong = here(chosen)
+def as_lists_user(chosen: settings.Settings) -> None:
+    """Root goes on as the user that the lists belong to: what root makes in a list's folder can't be written by the agent afterwards."""
+    if os.geteuid() == 0 and (owner := chosen.lists.stat().st_uid) != 0:
+        user = pwd.getpwuid(owner)
+        os.initgroups(user.pw_name, user.pw_gid)
+        os.setgid(user.pw_gid)
+        os.setuid(owner)
+
+
+def look(chosen: settings.Settings, name: str | None) -> tuple[dict[str, Queue], list[asking.Fault]]:
+    """What is seen of this host: the agent is asked, and then the folders are looked at; of them all, or of the list of a name."""
+    heard = asking.ask(chosen)
+    with contextlib.suppress(OSError, KeyError):
+        as_lists_user(chosen)
+    queues, wrong = here(chosen, heard)
+    try:
+        wrong += of_folders(chosen, queues if name is None else {name})
+    except PermissionError:
+        pass  # The agent has said what it knows.
+    except OSError as error:
+        wrong.append((CRITICAL, '', wire.printable(str(error))))
+    return queues, wrong
+
+
+async def status(chosen: settings.Settings, past: 'history.History | None', name: str | None, seen: tuple[dict[str, Queue], list[asking.Fault]]) -> int:
+    """Prints how the lists stand, or one of them, with what was seen of this host. The answer is 0, or 1 if something should be looked at, 2 if it
+    must be, and 3 if it can't be told."""
+    queues, wrong = seen
     every = [Standing(each, queue) for each, queue in queues.items()]
     if past is not None:
         every = [dataclasses.replace(one, queue=queues.get(one.name)) for one in await past.standing()]
-        wrong += [(WARNING, f'{each}: it is in no history yet') for each in queues.keys() - {one.name for one in every}]
+        wrong += [(WARNING, each, 'it is in no history yet') for each in queues.keys() - {one.name for one in every}]
     if name is not None:
         every = [one for one in every if one.name == name]
-        wrong = [(level, text) for level, text in wrong if ': ' not in text or text.startswith(f'{name}: ')]
-        wrong += [] if every else [(CRITICAL, f'there is no list {wire.printable(name)}')]
+        wrong = [fault for fault in wrong if fault[1] in ('', name)]
+        wrong += [] if every or any(fault[1] for fault in wrong) else [(CRITICAL, '', f'there is no list {wire.printable(name)}')]
     return report(every, wrong)
 
 

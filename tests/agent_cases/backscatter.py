@@ -152,37 +152,6 @@ def case_requests_by_address(world):
     same(envelope.addresses(b'layout 2\nTa@b\x001700000000\0TC@d\x000\0'), {b'a@b', b'c@d'}, 'layout 2')
 
 
-def case_replies(world):
-    """A sender gets so many answers in an hour, over all lists and recipients; posts, confirmations and what isn't answered don't count."""
-    world.rows['replies'] = 5
-    world.list(words=['-P'])
-    world.list('dogs')
-    world.begin()
-    for n in range(3):
-        same(world.mail('f@m.net', [f'dogs-help@{HOST}'], post(n)), ['250 2.0.0 help'], 'help')
-    # What is refused and what is weeded sends nothing.
-    for n in range(10):
-        begins(world.mail('f@m.net', [f'cats-subscribe@{HOST}'], post(n))[0], '550 5.7.2 Nobody joins this list by mail', 'a list that is not open')
-        same(world.mail('f@m.net', [f'dogs-help@{HOST}'], b'Auto-Submitted: auto-replied\n' + post(n)), ['250 2.0.0 weeded automatic'], 'weeded')
-    said = world.mail('F@m.net', [f'dogs-get.{n}@{HOST}' for n in range(1, 10)], post(5))
-    same([reply[:3] for reply in said], ['250'] * 2 + ['450'] * 7, 'nine requests in one mail')
-    begins(world.mail('f@m.net', [f'cats-help@{HOST}'], post(6))[0], '450 4.7.1 This sender has asked', 'another list')
-    same(world.mail('g@m.net', [f'dogs-help@{HOST}'], post(7)), ['250 2.0.0 help'], 'another sender')
-    same(world.mail('f@m.net', [f'dogs@{HOST}', f'dogs-owner@{HOST}'], post(8, to='dogs')), ['250 2.0.0 posted 1', '250 2.0.0 owner'], 'a post')
-    begins(world.mail('f@m.net', [f'dogs-sc.1.{COOKIE}-f=m.net@{HOST}'], post(9))[0], '550 5.7.1 The letters', 'a confirmation')
-    with Client(world.place / 'lmtp') as client:
-        for _ in range(10):
-            client.propose('h@m.net', [f'dogs-help@{HOST}'] * 5)
-            client.send(b'')
-            [client.reply() for _ in range(5)]
-            break
-    world.end()
-    world.rows['replies'] = 0
-    world.begin()
-    for n in range(30):
-        same(world.mail('f@m.net', [f'dogs-help@{HOST}'], post(n + 100)), ['250 2.0.0 help'], 'without a limit')
-
-
 def case_private_says_why(world):
     """What a list doesn't do for somebody is refused with what that means."""
     world.list(words=['-P'])

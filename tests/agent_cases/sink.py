@@ -33,6 +33,8 @@ class Sink:
         self.refuses_all, self.refusal = False, '550 5.1.1 No such user'
         self.most_errors = 1000     # after which it hangs up
         self.hang_up = 0            # how many transactions end in the middle
+        self.refuse_to_take = never  # whether it hangs up when it has this mail
+        self.hung = 0               # how often it did
         self.holds = never          # whether a transaction of these recipients, whose copies were kept, has no reply yet
         self.waiting = 0            # how many have none
         self.most_waiting = 0       # how many had none at once
@@ -64,6 +66,10 @@ class Sink:
         return '250 Ok'
 
     async def handle_DATA(self, server, session, envelope):
+        if self.refuse_to_take(envelope):
+            self.hung += 1
+            server.transport.abort()
+            return '421 Bye'
         if self.hang_up:
             self.hang_up -= 1
             server.transport.abort()
