@@ -77,7 +77,7 @@ def case_empty_sender(world):
         ('cats-owner', '250 2.0.0 owner'),
     ]
     for n, (local, wanted) in enumerate(rows):
-        begins(world.mail('', [f'{local}@{HOST}'], post(n + 2))[0], wanted, local)
+        begins(world.mail('', [f'{local}@{HOST}'], post(n + 2, subject='failure notice'))[0], wanted, local)
 
 
 def case_addresses(world):
