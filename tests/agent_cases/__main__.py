@@ -11,7 +11,7 @@ import traceback
 
 import compiled
 
-from . import (backscatter, beside, checking, given, histories, hosts, killed, looks, mail_in, mail_out, numbers, receivers, records, servers,
+from . import (backscatter, beside, checking, given, growing, histories, hosts, killed, looks, mail_in, mail_out, numbers, receivers, records, servers,
                set_up, shared, shared_by_hand, signatures, together, trouble, weeding)
 from .world import IS_UNPROVED, TOP, Skipped, World, Wrong
 
@@ -29,7 +29,7 @@ OF_HOSTS = 'shared', 'shared_takes_over'
 def cases():
     """The cases by their names, the longest first."""
     found = {f'killed{part}': functools.partial(killed.case_killed, part=part) for part in range(killed.PARTS)}
-    for module in (shared, shared_by_hand, histories, together, given, mail_out, beside, trouble, weeding, backscatter, hosts, checking, mail_in,
+    for module in (growing, shared, shared_by_hand, histories, together, given, mail_out, beside, trouble, weeding, backscatter, hosts, checking, mail_in,
                    numbers, set_up, receivers, records, looks, signatures):
         found.update({name.removeprefix('case_'): call for name, call in vars(module).items() if name.startswith('case_')})
     return found
