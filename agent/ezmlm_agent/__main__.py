@@ -10,6 +10,7 @@ import pathlib
 import resource
 import signal
 import sys
+import threading
 from collections.abc import Callable, Iterable
 from typing import TYPE_CHECKING, NoReturn, TextIO
 
@@ -23,6 +24,7 @@ log = logging.getLogger('ezmlm-agent')
 LOOKS = 60  # seconds between two looks for lists
 ORDERS = 'give', 'configure', 'forget_host', 'status'  # what operators ask
 ENDING = 60  # seconds until what is in hand at the end is left as it is
+LAST = 90    # seconds after a signal at which the agent ends, whatever hangs: the unit has 120
 DESCRIPTORS = 65536
 SWITCH = 0.0005  # seconds: threads wait for runs of the program and for the disk, and each is soon served
 
@@ -75,6 +77,9 @@ class Agent:
         await self.ended.wait()
         log.info('stops')
         notify.tell('STOPPING=1')
+        last = threading.Timer(LAST, self.leave)
+        last.daemon = True
+        last.start()
         for task in tending:
             task.cancel()
         self.listener.close()
@@ -158,6 +163,22 @@ class Agent:
         if self.hosts:
             await self.hosts.stop()
         self.exchange.close_unused(0)
+
+
+    def leave(self) -> NoReturn:
+        """Ends at once, and says what is left. Nothing is lost by it: mail that wasn't answered comes again."""
+        lists = sum(found.is_stuck() for found in list(self.lists.served.values()))
+        log.warning('ends, and leaves %d connections, %d lists with something in hand, and %d threads', len(self.server.sessions), lists,
+                    threading.active_count() - 1)
+        end_now()
+
+
+def end_now() -> NoReturn:
+    """Ends without waiting for threads and tasks, which Python would do."""
+    logging.shutdown()
+    with contextlib.suppress(OSError):
+        sys.stderr.flush()
+    os._exit(0)
 
 
 def hosts_of(chosen: settings.Settings, lists: Callable[[], Iterable[mailing.MailingList]]) -> 'hosts.Hosts | None':
@@ -267,12 +288,7 @@ async def run(chosen: settings.Settings, path: str) -> None:
         print(f'ezmlm-agent: {error}', file=sys.stderr)
         sys.exit(settings.WRONG)
     await agent.run()
-    if any(found.is_stuck() for found in agent.lists.served.values()):
-        # Python would wait for them: tasks that can't be cancelled, and the program's runs that can't be killed.
-        logging.shutdown()
-        with contextlib.suppress(OSError):
-            sys.stderr.flush()
-        os._exit(0)
+    end_now()
 
 
 if __name__ == '__main__':

@@ -39,13 +39,16 @@ def is_in(path: pathlib.Path, name: bytes, address: bytes) -> bool:
 def refusal(path: pathlib.Path, rest: bytes | None, sender: bytes) -> str | None:
     """The word of the refusal that a mail from this sender gets, whatever stands in it, or None. The rest is that of the recipient
     LOCAL-REST@HOST, and None for LOCAL@HOST. `notours` is an address that asks nothing that the list has: it would answer that with help, to
-    whoever's name is in the envelope."""
+    whoever's name is in the envelope. The empty sender is left to the list, which refuses it after the mail: other hosts ask by it whether an
+    address is there, and hang up."""
     request = requests.read(rest)
     lines = folder.configuration(path)
     if lines is None or request.kind in (Kind.BOUNCE, Kind.OWNER):
         return None
     if request.kind is Kind.UNKNOWN:
         return 'notours'
+    if not sender:
+        return None
     if not requests.is_address(sender):
         return 'nosender'
     flags = lines.get(b'flags', b'')

@@ -29,15 +29,23 @@ class Named(NamedTuple):
     rest: bytes | None  # of LOCAL-REST@HOST; None for LOCAL@HOST
 
 
-def named_by(recipient: bytes, lists: Mapping[notes.Address, Thing]) -> tuple[Thing, bytes | None] | None:
-    """What stands in a map by LOCAL and HOST for a recipient, and REST or None: LOCAL@HOST, or LOCAL-REST@HOST with the longest LOCAL that
-    there is."""
-    local, _, host = recipient.rpartition(b'@')
-    words = local.split(b'-')
-    for many in range(len(words), 0, -1):
-        if (found := lists.get((b'-'.join(words[:many]).lower(), host.lower()))) is not None:
-            return found, b'-'.join(words[many:]) if many < len(words) else None
-    return None
+class ByAddress(dict[notes.Address, Thing]):
+    """What stands for each LOCAL and HOST, both in lower case. It doesn't change once it is made."""
+
+    def __init__(self, rows: Mapping[notes.Address, Thing]) -> None:
+        super().__init__(rows)
+        self.lengths = sorted({len(local) for local, _ in rows}, reverse=True)
+
+    def named_by(self, recipient: bytes) -> tuple[Thing, bytes | None] | None:
+        """What a recipient names, and REST or None: LOCAL@HOST, or LOCAL-REST@HOST with the longest LOCAL that there is. Only the lengths that some
+        LOCAL has are looked up, so many hyphens of a stranger cost no more than other bytes."""
+        local, _, host = recipient.rpartition(b'@')
+        host = host.lower()
+        for length in self.lengths:
+            if length == len(local) or local[length:length + 1] == b'-':
+                if (found := self.get((local[:length].lower(), host))) is not None:
+                    return found, None if length == len(local) else local[length + 1:]
+        return None
 
 
 Times = tuple[int, ...]
@@ -81,7 +89,7 @@ class Lists:
         self.threads = aside.Aside()
         self.served: dict[pathlib.Path, mailing.MailingList] = {}
         self.addresses: dict[str, notes.Address] = {}  # of lists that are served or have notes, by the folder's name
-        self.by_address: dict[notes.Address, mailing.MailingList | str] = {}  # a list, or why it can't be served
+        self.by_address: ByAddress[mailing.MailingList | str] = ByAddress({})  # a list, or why it can't be served
         self.others: dict[pathlib.Path, Seen] = {}  # folders that have no list, or can't be read
         self.trouble: dict[str, str] = {}  # what is wrong, by the folder's name
         self.off: dict[str, tuple[float, str]] = {}  # lists whose mail is put off: since when, by the monotonic clock, and why
@@ -96,12 +104,12 @@ class Lists:
 
     async def find(self, recipient: bytes) -> Named | None:
         """The list that a recipient names, with the rest of its address, or None. It is Unavailable if the list can't be served now."""
-        found = named_by(recipient, self.by_address)
+        found = self.by_address.named_by(recipient)
         if found is None or isinstance(found[0], str):
             await self.refreshed()
         elif time.monotonic() - self.looked > FRESH:
             await asyncio.wait([self.refreshing()], timeout=SOON)
-        found = named_by(recipient, self.by_address)
+        found = self.by_address.named_by(recipient)
         if found is None and self.is_unsure:
             raise Unavailable('a list can\'t be read, and it may be the one of this address')
         if found is None:
@@ -165,7 +173,7 @@ class Lists:
             address: f'the list {wire.printable(name)} can\'t be read now' for name, address in remembered.items()}
         for address, folders in found.items():
             by_address[address] = self.one_of(folders, address, trouble)
-        self.by_address, self.stamp = by_address, stamp
+        self.by_address, self.stamp = ByAddress(by_address), stamp
         gone = {name: GONE for name in remembered.keys() - {path.name for path in paths} if isinstance(by_address[remembered[name]], str)}
         self.off = {name: (self.off.get(name, (time.monotonic(), ''))[0], why) for name, why in (gone | trouble).items()}
         self.tell(trouble)

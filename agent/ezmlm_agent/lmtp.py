@@ -18,7 +18,9 @@ PER_RECIPIENT = 500  # bytes of memory for each, beside its address
 SAID = 4096   # bytes of replies that wait for others, at most
 LEAVING = 10  # seconds for telling the last replies, when the agent stops
 DROPPED = program.Answer(0, 'dropped')  # said of a mail that would be one answer too many
-SIZE = re.compile(rb'(?:^| )SIZE=(\d{1,20})(?: |$)', re.IGNORECASE)  # RFC 1870
+SIZE = re.compile(rb'SIZE=(\d{1,20})', re.IGNORECASE)  # RFC 1870
+PARAMETER = re.compile(SIZE.pattern + rb'|BODY=(?:7BIT|8BITMIME)|SMTPUTF8', re.IGNORECASE)  # of MAIL; RFC 6152, RFC 6531. RCPT has none
+UNKNOWN = '555 5.5.4 %s has a parameter that isn\'t known here'  # RFC 5321 4.1.1.11
 
 Find = Callable[[bytes], Awaitable[lists.Named | None]]
 
@@ -144,6 +146,8 @@ class Session:
             return await self.say(f'501 5.1.7 MAIL FROM:<address> of at most {LONGEST_PATH} bytes')
         if declared_size(line) > LONGEST_SENT:
             return await self.say(refusals.SENTENCES['toobig'])
+        if not all(map(PARAMETER.fullmatch, parameters(line))):
+            return await self.say(UNKNOWN % 'MAIL')
         self.sender = sender
         await self.say('250 2.1.0 Ok')
 
@@ -153,6 +157,8 @@ class Session:
         recipient = path_of(line)
         if recipient is None:
             return await self.say(f'501 5.1.3 RCPT TO:<address> of at most {LONGEST_PATH} bytes')
+        if parameters(line):
+            return await self.say(UNKNOWN % 'RCPT')
         if len(self.recipients) == MOST_RECIPIENTS:
             return await self.say('452 4.5.3 Too many recipients')
         try:
@@ -245,8 +251,12 @@ def path_of(line: bytes) -> bytes | None:
     return address if len(address) <= LONGEST_PATH else None
 
 
+def parameters(line: bytes) -> list[bytes]:
+    """The parameters of MAIL or RCPT."""
+    path = wire.PATH.fullmatch(line)
+    return (path[2] or b'').split() if path else []
+
+
 def declared_size(line: bytes) -> int:
     """The bytes that MAIL says the message has, or 0 if it says none."""
-    path = wire.PATH.fullmatch(line)
-    found = SIZE.search(path[2] or b'') if path else None
-    return int(found[1]) if found else 0
+    return next((int(found[1]) for word in parameters(line) if (found := SIZE.fullmatch(word))), 0)

@@ -91,9 +91,9 @@ class MailingList:
         place = weed.place_of(None if rest is None else rest.decode('latin-1'))
         why = None
         if place is weed.Place.LIST and self.settings.auto_posts == 'refuse':
-            if await asyncio.to_thread(weed.is_automatic, message):
+            if await self.shared.weeder.told(weed.is_automatic, message):
                 why = program.Answer(100, 'automatic')
-        elif self.settings.weed and place in weed.WEEDED and (word := await asyncio.to_thread(weed.verdict, message, place)):
+        elif self.settings.weed and place in weed.WEEDED and (word := await self.shared.weeder.told(weed.verdict, message, place)):
             why = program.Answer(0, f'weeded {word}')
         if why is None:
             return await self.deliver(sender, recipient, message)

@@ -6,7 +6,7 @@ import dataclasses
 import hashlib
 import time
 
-from . import aside, program, settings, smtp, wire
+from . import aside, program, settings, smtp, weeding, wire
 
 MOST_MAILS, MOST_BYTES = 128, 8 << 20  # of a run; one with so many takes no more
 SLOW = 5  # seconds after which a list that hasn't answered counts as one that doesn't
@@ -81,3 +81,4 @@ class Shared:
     stuck: wire.Room  # for mail that a run has in hand, and that nobody waits for any more
     reads: asyncio.Semaphore = dataclasses.field(default_factory=lambda: asyncio.Semaphore(aside.TURNS))  # of folders
     gentle: asyncio.Semaphore = dataclasses.field(default_factory=lambda: asyncio.Semaphore(GENTLE))
+    weeder: weeding.Weeding = dataclasses.field(default_factory=weeding.Weeding)

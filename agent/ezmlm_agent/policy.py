@@ -46,6 +46,8 @@ class Policy:
         if asked.get(b'request') != b'smtpd_access_policy' or asked.get(b'protocol_state') != b'RCPT':
             return 'DUNNO'
         sender, recipient = asked.get(b'sender', b''), asked.get(b'recipient', b'')
+        if max(len(sender), len(recipient)) > lmtp.LONGEST_PATH:
+            return 'DUNNO'
         try:
             named = await self.find(recipient)
             word = await judge(named, sender) if named else None

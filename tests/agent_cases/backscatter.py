@@ -6,7 +6,7 @@ import sys
 from .world import HOST, LONG, TOP, Client, begins, check, held, post, same, until
 
 sys.path.insert(0, str(TOP / 'agent'))
-from ezmlm_agent import envelope, requests  # noqa: E402
+from ezmlm_agent import envelope, lists, lmtp, requests  # noqa: E402
 
 MOD, MEMBER, DIGEST, ALLOWED, DENIED, STRANGER = 'mod@m.net', 'a@m.net', 'dig@m.net', 'al@m.net', 'd@m.net', 's@m.net'
 COOKIE = 'a' * 20
@@ -28,9 +28,9 @@ RESTS = [
 ]
 # Lists by their options, and what they refuse by the envelope: the rest of the address, who writes, and the word, or None.
 LISTS = {
-    '': [(None, STRANGER, None), (None, DENIED, None), (None, '', 'nosender'), (None, '#@[]', 'nosender'), ('help', '', 'nosender'),
+    '': [(None, STRANGER, None), (None, DENIED, None), (None, '', None), (None, '#@[]', 'nosender'), ('help', '', None),
          ('help', STRANGER, None), ('owner', '', None), ('return-1-a=m.net', '', None), ('nonsense', STRANGER, 'notours'), ('get.x', '', 'notours'),
-         ('subscribe', STRANGER, None), ('subscribe', '', 'nosender'), ('allow-subscribe', STRANGER, 'private'), ('allow-subscribe', MOD, 'private'),
+         ('subscribe', STRANGER, None), ('subscribe', '', None), ('subscribe', '#@[]', 'nosender'), ('allow-subscribe', STRANGER, 'private'), ('allow-subscribe', MOD, 'private'),
          ('deny-unsubscribe', MEMBER, 'private'), ('list', MOD, 'private'), ('list', STRANGER, 'private'), ('get.1', STRANGER, None),
          ('unsubscribe', STRANGER, None), (f'sc.1.{COOKIE}-x=y', STRANGER, None)],
     'k': [(None, DENIED, 'denied'), (None, DENIED.upper(), 'denied'), (None, STRANGER, None), ('help', DENIED, None)],
@@ -110,10 +110,13 @@ def case_policy(world):
             if word and word != 'notours':
                 same(answer[1:], ['100', word], f'the list itself: {options}, {rest} of {sender}')
             else:
-                check(answer[1] == '0' or answer[2] in ('badcookie', 'gone') or not sender and word, f'the list itself: {options}, {rest} of {sender}: {answer}')
+                check(answer[1] == '0' or answer[2] in ('badcookie', 'gone') or not sender, f'the list itself: {options}, {rest} of {sender}: {answer}')
     same(client.ask(STRANGER, f'nobody@{HOST}'), 'DUNNO', 'an address of no list')
     same(client.ask(STRANGER, address('l0', 'nonsense'), state='DATA'), 'DUNNO', 'another state')
     same(client.ask(STRANGER, 'l0', more=b'x=' + b'y' * 3000 + b'\n'), 'DUNNO', 'no address')
+    begins(told(client, STRANGER, address('l0', 'x' * (lmtp.LONGEST_PATH - len(address('l0', '')))), False), '550 5.1.1', 'a long address')
+    same(client.ask(STRANGER, address('l0', 'x' * (lmtp.LONGEST_PATH + 1 - len(address('l0', ''))))), 'DUNNO', 'one that is too long')
+    same(client.ask('x' * 995 + '@m.net', address('l1', 'nonsense')), 'DUNNO', 'a sender that is too long')
     check(world.tells(f'l1 - {DENIED} l1@{HOST}: refused by policy: denied'), 'the log does not tell it')
     client.close()
 
@@ -140,6 +143,31 @@ def case_policy_cant_tell(world):
     junk.close()
     same(world.post(1), '550 5.7.2 Only those who are known to this list may post.', 'the list')
     client.close()
+
+
+def case_longest_local(world):
+    """A recipient names the list with the longest LOCAL that there is, in any case of letters."""
+    found = lists.ByAddress({(b'a', b'h'): 1, (b'a-b', b'h'): 2, (b'a-b-c', b'i'): 3, (b'-', b'h'): 4, (b'ab', b'h'): 5})
+    for recipient, wanted in ((b'a@h', (1, None)), (b'A@H', (1, None)), (b'a-@h', (1, b'')), (b'a-c-B@h', (1, b'c-B')), (b'a-b@h', (2, None)),
+                              (b'a-b-c@h', (2, b'c')), (b'a-b-c@i', (3, None)), (b'A-b-C-d@i', (3, b'd')), (b'a-b@i', None), (b'abc@h', None),
+                              (b'a@b@h', None), (b'a', None), (b'', None), (b'@h', None), (b'---@h', (4, b'-')), (b'-@h', (4, None)),
+                              (b'b-a@h', None), (b'a-' + b'-' * 4000 + b'@h', (1, b'-' * 4000)), (b'ab-a-b@h', (5, b'a-b'))):
+        same(found.named_by(recipient), wanted, str(recipient[:40]))
+
+
+def case_parameters(world):
+    """MAIL takes the parameters of what LHLO says, and RCPT none: all others are 555."""
+    world.list()
+    world.begin()
+    with Client(world.place / 'lmtp') as client:
+        for words, wanted in (('BODY=8BITMIME SIZE=99', '250'), ('body=7bit SMTPUTF8  size=1', '250'), ('', '250'), (' ', '250'), ('XVERP', '555 5.5.4'),
+                              ('AUTH=<>', '555 5.5.4'), ('BODY=BINARYMIME', '555 5.5.4'), ('SIZE=1 RET=HDRS', '555 5.5.4'), ('SIZE=x', '555 5.5.4'),
+                              ('SIZE=99999999999 X=1', '552')):
+            begins(client.command(f'MAIL FROM:<a@m.net> {words}'.encode()), wanted, words)
+            client.command(b'RSET')
+        begins(client.command(b'MAIL FROM:<a@m.net>'), '250', 'MAIL')
+        for words, wanted in (('NOTIFY=NEVER', '555 5.5.4'), ('SIZE=1', '555 5.5.4'), ('ORCPT=rfc822;a@b X', '555 5.5.4'), ('', '250')):
+            begins(client.command(f'RCPT TO:<cats@{HOST}> {words}'.strip().encode()), wanted, words)
 
 
 def case_requests_by_address(world):

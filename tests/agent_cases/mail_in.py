@@ -3,8 +3,9 @@
 import os
 import re
 import threading
+import time
 
-from .world import HOST, IS_UNPROVED, Client, begins, check, post, same, until
+from .world import HOST, IS_UNPROVED, TOP, Client, begins, check, post, same, until
 
 LONGEST = 33_554_432
 
@@ -77,7 +78,7 @@ def case_empty_sender(world):
         ('cats-owner', '250 2.0.0 owner'),
     ]
     for n, (local, wanted) in enumerate(rows):
-        begins(world.mail('', [f'{local}@{HOST}'], post(n + 2))[0], wanted, local)
+        begins(world.mail('', [f'{local}@{HOST}'], post(n + 2, subject='failure notice'))[0], wanted, local)
 
 
 def case_addresses(world):
@@ -212,3 +213,30 @@ def case_bad_clients(world):
         client.__exit__()
     check(world.is_out(9), 'not handed on')
     world.note = f'it grew by {grown} MiB'
+
+
+# The agent of which some calls never end, and whose last moment comes soon after a signal.
+HANGING = ('/usr/bin/python3', '-c', '''
+import sys, time
+sys.path.insert(0, sys.argv[1])
+from ezmlm_agent import __main__, signing, weed
+__main__.LAST = 3
+signing.keep = weed.verdict = lambda *_: time.sleep(100_000)
+__main__.main(sys.argv[2:])
+''', TOP / 'agent')
+
+
+def case_ends_whatever_hangs(world):
+    """A look at a mail that doesn't end gives the mail to the list, and calls that don't end keep no agent from ending, which says what is left."""
+    world.list()
+    world.begin(words=HANGING)
+    same(world.mail('w@m.net', [f'cats-help@{HOST}'], post()), ['250 2.0.0 help'], 'a mail that can\'t be looked at')
+    check(world.tells('a mail is given without weeding: that takes longer than 1 seconds'), 'the log does not tell it')
+    asking = threading.Thread(target=world.mail, args=['', [f'cats-return-1-ezmlm-agent-check.{"0" * 16}=ex.org@{HOST}'], post(2)])
+    asking.start()
+    check(until(lambda: world.post(3) == '250 2.0.0 posted 1'), 'other mail waits')
+    begun = time.monotonic()
+    same(world.end(), 0, 'the status')
+    asking.join()
+    check(world.tells('ends, and leaves 1 connections, '), 'the log does not tell what is left')
+    world.note = f'it ended after {time.monotonic() - begun:.1f} seconds. '

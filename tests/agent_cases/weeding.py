@@ -4,24 +4,24 @@ import os
 import subprocess
 import sys
 
-from . import corpora
+from . import corpora, notices
 from .world import HOST, TOP, Skipped, begins, check, post, same, until
 
 sys.path.insert(0, str(TOP / 'agent'))
 from ezmlm_agent import weed  # noqa: E402
 
-# What of the corpora isn't given to a list, and why. All the others are bounces, or are named below.
+# What of the corpora isn't given to a list, and why. All the others are bounces, or are named below. What isn't recognised is an answer, a
+# challenge, two mails of spammers, and a person's mail about reservations.
 WEEDED = {
     'flufl.bounce': dict.fromkeys(('dsn_05.txt', 'dsn_06.txt', 'dsn_07.txt', 'dsn_08.txt', 'dsn_17.txt', 'simple_03.txt', 'simple_21.txt',
-                                   'simple_28.txt', 'simple_35.txt', 'simple_40.txt'), 'delayed') | {'qmail_08.txt': 'automatic'},
-    'BounceParser': {'warning-8.msg': 'delayed', 'aol-vacation.msg': 'automatic', 'polish-autoreply.msg': 'automatic'},
+                                   'simple_22.txt', 'simple_28.txt', 'simple_35.txt', 'simple_40.txt'), 'delayed') |
+    {'qmail_08.txt': 'automatic', 'groupwise_03.txt': 'unrecognised'},
+    'BounceParser': {'warning-8.msg': 'delayed', 'aol-vacation.msg': 'automatic', 'polish-autoreply.msg': 'automatic', 'warning-6.msg': 'automatic',
+                     'autoreply.msg': 'unrecognised', 'bluebottle.msg': 'unrecognised', 'spam-bogus-email-in-report.msg': 'unrecognised',
+                     'spam-with-image.msg': 'unrecognised'},
 }
-# Delays and answers that are taken for bounces all the same: a gateway's `Delivery failure notification` that tells of more tries in its
-# text alone, and answers that say nowhere in their fields that no person wrote them, two of which even are reports.
-TAKEN = {
-    'flufl.bounce': {'simple_22.txt'},
-    'BounceParser': {'autoreply.msg', 'bluebottle.msg', 'boxbe-cr.msg', 'boxbe-cr2.msg', 'warning-6.msg'},
-}
+# Answers that are taken for bounces all the same: a service asks the sender to sign up by a report whose `Action` is `failed`.
+TAKEN = {'flufl.bounce': set(), 'BounceParser': {'boxbe-cr.msg', 'boxbe-cr2.msg'}}
 
 
 def report(*actions, fields='', copy='Subject: hello\n\nhi\n', kind='message/delivery-status'):
@@ -84,35 +84,43 @@ BOUNCES = [
     # A bounce of a mail that has a notice of delay in it, and a notice that isn't first in its mail.
     (report('failed', copy=report('delayed').decode()), None),
     (b'Content-Type: multipart/mixed; boundary=x\n\n--x\n' + report('delayed') + b'\n--x\n\nThe footer of a list.\n--x--\n', 'delayed'),
-    # Answers of machines.
+    # Answers of machines, and mail of persons.
     (said(*AWAY, 'Auto-Submitted: auto-replied'), 'automatic'), (said(*AWAY, 'auto-submitted:\n AUTO-Generated; x=y'), 'automatic'),
     (said(*AWAY, 'Auto-Submitted: (by a (rule)) auto-replied (vacation)'), 'automatic'),
-    (said(*AWAY, 'Auto-Submitted: no'), None), (said(*AWAY), None), (said(*AWAY, 'Auto-Submitted:'), None),
+    (said(*AWAY, 'Auto-Submitted: (a \\) b) no'), 'unrecognised'), (said(*AWAY, 'Auto-Submitted: no (((a) b) c)'), 'unrecognised'),
+    (said(*AWAY, 'Auto-Submitted: no'), 'unrecognised'), (said(*AWAY), 'unrecognised'), (said(*AWAY, 'Auto-Submitted:'), 'unrecognised'),
     (said('From: b@m.net', 'Precedence: bulk', 'Subject: Out of Office: hello'), 'automatic'),
     (said('From: b@m.net', 'Precedence: junk', 'Subject: =?UTF-8?B?QWJ3ZXNlbmhlaXRzbm90aXo=?='), 'automatic'),
     (said('From: b@m.net', 'Precedence: auto_reply', 'Subject: =?iso-8859-1?Q?R=E9ponse_automatique?='), 'automatic'),
-    (said('From: b@m.net', 'Precedence: bulk', 'Subject: No such user'), None), (said('From: b@m.net', 'Subject: Out of office'), None),
-    (said('From: b@m.net', 'Precedence: list', 'Subject: Out of office'), None),
+    (said('From: b@m.net', 'Subject: Out of office'), 'automatic'), (said('From: b@m.net', 'Precedence: list', 'Subject: Hello'), 'unrecognised'),
     # Bounces without a report part, which say that a machine sent them.
     (said('From: Mailer-Daemon@m.net', 'Subject: Mail failed', 'Auto-Submitted: auto-replied'), None),
-    (said('From: <>', 'Auto-Submitted: auto-replied'), None),
+    (said('From: <>', 'Auto-Submitted: auto-replied'), None), (said('From: b@m.net', 'Precedence: bulk', 'Subject: User unknown'), None),
     (said(*AWAY, 'Auto-Submitted: auto-generated (failure)'), None),
     (said(*AWAY, 'X-Failed-Recipients: b@m.net', 'Auto-Submitted: auto-replied'), None),
     (said('From: Mailer-Daemon@m.net', 'Subject: Warning: message 1 delayed 24 hours', 'Auto-Submitted: auto-replied'), 'delayed'),
     # Complaints (RFC 5965) aren't expected at a return address, and challenges are answers of machines if they say so.
-    (COMPLAINT, None), (said('From: b@m.net', 'Subject: Please confirm that you are a person', 'Auto-Submitted: auto-replied'), 'automatic'),
-    (said('From: b@m.net', 'Subject: Please confirm that you are a person'), None),
+    (COMPLAINT, 'automatic'),
+    (said('From: b@m.net', 'Subject: Please confirm that you are a person', 'Auto-Submitted: auto-replied'), 'automatic'),
     # What no parser is glad of.
-    (b'', None), (b'\n', None), (b'\0\xff' * 1000, None), (report('delayed')[:-40], 'delayed'),
+    (b'', 'unrecognised'), (b'\n', 'unrecognised'), (b'\0\xff' * 1000, 'unrecognised'), (report('delayed')[:-40], 'delayed'),
+    (report('failed').replace(b'\n', b'\r\n'), None), (report('delayed').replace(b'\n', b'\r\n'), 'delayed'),
     (b'Content-Type: multipart/report; boundary=\n\n--\n', None), (b'Content-Type: multipart/report\n\n--x\n', None),
-    (b''.join(b'Content-Type: multipart/mixed; boundary=b%d\n\n--b%d\n' % (n, n) for n in range(5000)), None),
-    (b'Subject: =?x-none?B?!!!?=\nPrecedence: bulk\n\n', None), (b'Auto-Submitted: \xff\xfe\n\n', None),
+    (b''.join(b'Content-Type: multipart/mixed; boundary=b%d\n\n--b%d\n' % (n, n) for n in range(5000)), 'unrecognised'),
+    (b'Subject: =?x-none?B?!!!?=\nPrecedence: bulk\n\n', 'unrecognised'), (b'Auto-Submitted: \xff\xfe\n\n', 'automatic'),
+    # Beyond the first 64 KiB of a header nothing is looked at, and a comment that doesn't end is none.
+    (b'From: b@m.net\nX: ' + b'x' * 70_000 + b'\nX-Failed-Recipients: b@m.net\n\n', 'unrecognised'),
+    (said('From: b@m.net', 'Auto-Submitted: ' + '(' * 20_000 + ')' * 20_000 + ' no'), 'unrecognised'),
+    (said('From: b@m.net', 'Auto-Submitted: (no'), 'automatic'),
 ]
 REQUESTS = [
     (said(*AWAY), None), (said(*AWAY, 'Auto-Submitted: no'), None), (said(*AWAY, 'Auto-Submitted: No (a person)'), None),
     (said(*AWAY, 'Auto-Submitted: auto-replied'), 'automatic'), (said(*AWAY, 'Auto-Submitted: auto-notified'), 'automatic'),
     (said(*AWAY, 'Auto-Submitted: x-new'), 'automatic'), (said(*AWAY, 'Auto-Submitted: no', 'Auto-Submitted: auto-replied'), 'automatic'),
     (said('Subject: Vacation', 'Precedence: bulk'), 'automatic'), (said(*AWAY, body='Auto-Submitted: auto-replied'), None),
+    (said(*AWAY, 'Precedence: auto_reply'), 'automatic'), (said(*AWAY, 'X-Autoreply: yes'), 'automatic'),
+    (said('Subject: Automatic reply: hello', 'X-Auto-Response-Suppress: All'), 'automatic'), (report('failed'), 'automatic'),
+    (said(*AWAY, 'X-Auto-Response-Suppress: All'), None), (said('Subject: Vacation'), None),
 ]
 
 
@@ -121,9 +129,12 @@ def case_weed_rows(world):
     for place, rows in ((weed.Place.BOUNCES, BOUNCES), (weed.Place.OTHER, REQUESTS)):
         for mail, wanted in rows:
             same(weed.verdict(mail, place), wanted, f'{place.name}: {mail[:300]!a}')
+    for mail, wanted in BOUNCES:
+        same(weed.verdict(mail, weed.Place.COOKIE), None if wanted == 'unrecognised' else wanted, f'to a cookie: {mail[:300]!a}')
     for place in (weed.Place.LIST, weed.Place.OWNER):
         same((weed.verdict(REQUESTS[3][0], place), weed.verdict(COMPLAINT, place)), (None, None), place.name)
-    rows = [(None, 'LIST'), ('return-1-a=b', 'BOUNCES'), ('Digest-Return-', 'BOUNCES'), ('return', 'OTHER'), ('owner', 'OWNER'), ('help', 'OTHER'),
+    rows = [(None, 'LIST'), ('return-1-a=b', 'BOUNCES'), ('Digest-Return-', 'BOUNCES'), ('return', 'OTHER'), ('return-warn-1.x-a=b', 'COOKIE'),
+            ('digest-return-Probe-1.x-a=b', 'COOKIE'), ('return-warning', 'BOUNCES'), ('owner', 'OWNER'), ('help', 'OTHER'),
             ('', 'OTHER'), ('digest-subscribe', 'OTHER'), ('accept-1.x', 'OTHER')]
     for rest, wanted in rows:
         same(weed.place_of(rest).name, wanted, str(rest))
@@ -131,8 +142,17 @@ def case_weed_rows(world):
     same(weed.verdict(long, weed.Place.BOUNCES), 'delayed', 'a notice with a long copy')
 
 
+def case_weed_notices(world):
+    """The notices of some twenty systems are bounces or delays as they say, and absent persons' answers and receipts are none."""
+    rows = list(notices.rows())
+    for name, mail, wanted in rows:
+        same(weed.verdict(mail, weed.Place.BOUNCES), wanted, name)
+    check(len({name for name, *_ in rows}) == len(rows), 'two have one name')
+    world.note = f'{len(rows)} notices. '
+
+
 def case_weed_corpora(world):
-    """Of the bounces in Debian's corpora none is weeded, and of their delays and automatic answers all except some that are named."""
+    """Of the bounces in Debian's corpora none is weeded, and of their delays and automatic answers all except two that are named."""
     absent = []
     for name, fetch in (('flufl.bounce', corpora.flufl), ('BounceParser', corpora.bounceparser)):
         try:
@@ -143,7 +163,7 @@ def case_weed_corpora(world):
         found = {file: verdict for file, mail in mails.items() if (verdict := weed.verdict(mail, weed.Place.BOUNCES))}
         same(found, WEEDED[name], name)
         check(TAKEN[name] <= mails.keys() - found.keys(), f'{name}: {sorted(TAKEN[name] - mails.keys())} is not there')
-        world.note += f'{name}: {len(mails)} mails, {len(found)} weeded, {len(TAKEN[name])} delays and answers taken. '
+        world.note += f'{name}: {len(mails)} mails, {len(found)} weeded, {len(TAKEN[name])} answers taken. '
     if absent:
         raise Skipped('; '.join(absent))
 
@@ -165,6 +185,8 @@ def case_weeded_bounces(world):
         same(world.mail('b@m.net', [f'{local}@{HOST}'], away), ['250 2.0.0 weeded automatic'], local)
     same((bounced(world), bounced(world, 'digest/bounce')), (0, 0), 'bounces')
     same(world.mail('', [f'cats-return-1-a=m.net@{HOST}'], report('failed')), ['250 2.0.0 bounce'], 'a bounce')
+    same(bounced(world), 1, 'bounces')
+    same(world.mail('b@m.net', [f'cats-return-1-b=m.net@{HOST}'], said(*AWAY)), ['250 2.0.0 weeded unrecognised'], 'a person\'s answer')
     same(bounced(world), 1, 'bounces')
     check(world.tells(f'cats - <> cats-return-1-a=m.net@{HOST}: weeded delayed',
                       f'cats - b@m.net cats-return-@{HOST}: weeded automatic'), 'the log does not tell it')
