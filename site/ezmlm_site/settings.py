@@ -36,14 +36,15 @@ class Site:
     archive: str = 'list'                    # one of ARCHIVES: as the list's options say, or whatever they say
     noindex: bool = False                    # whether robots are told not to index
     search: bool = False                     # whether the pages have a form for it
-    source: bool | None = None               # whether each post's bytes are given; None: unless addresses are hidden
+    source: bool = False                     # whether each post's bytes are given, with all addresses that stand in them
     first: int = 1                           # posts before this one aren't shown
     left_out: frozenset[int] = frozenset()   # the numbers of posts that are neither shown nor searched
     templates: pathlib.Path | None = None    # looked in before the site's own
 
     @property
     def gives_source(self) -> bool:
-        return self.addresses != 'hidden' if self.source is None else self.source
+        """The same as `source`, by the name that templates have."""
+        return self.source
 
 
 @dataclasses.dataclass(frozen=True)

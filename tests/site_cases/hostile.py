@@ -128,7 +128,7 @@ def case_hostile(world: World) -> None:
     place = world.place / 'site.conf'
     fill(world.list, ((BEGAN + n, b'topic %d' % n, raw) for n, (_, raw) in enumerate(ROWS)))
     equal('what `check` says', world.ask('check').split()[:2], [b'ok', b'%d' % len(ROWS)])
-    place.write_text(f'[cats]\nfolder = {world.list}\nweb = {world.web}\nstate = {world.place / "st"}\nsearch = yes\naddresses = shown\n')
+    place.write_text(f'[cats]\nfolder = {world.list}\nweb = {world.web}\nstate = {world.place / "st"}\nsearch = yes\naddresses = shown\nsource = yes\n')
     begun = time.monotonic()
     done = subprocess.run(['/usr/bin/python3', '-P', '-c', RUN, '--program', world.program, place], env=os.environ | {'PYTHONPATH': str(TOP / 'site')},
                           capture_output=True, text=True, check=False)
