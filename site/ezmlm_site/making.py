@@ -18,7 +18,7 @@ import sys
 import time
 from collections.abc import Iterator
 
-from . import archive, changes, files, message, pages, settings, words
+from . import archive, changes, files, pages, reading, settings, words
 from .store import Page, Post, Store
 
 BATCH = 4000  # pages that are written between two syncs: on a busy disk a sync takes longer than they do
@@ -35,6 +35,7 @@ class Maker:
         self.site = site
         self.is_anew = is_anew
         self.archive = archive.Archive(program, site.folder, patience)
+        self.reader = reading.Reader()
         self.path = site.state / f'{site.name}.sqlite'
         self.coming = site.state / f'{site.name}.sqlite.new'
 
@@ -54,6 +55,8 @@ class Maker:
             except sqlite3.DatabaseError:
                 self.coming.unlink(missing_ok=True)  # It may be what a crash of the machine left, since it isn't synced.
                 raise
+            finally:
+                self.reader.close()
             self.web.clear()
         return f'{posts} posts, {written} pages written'
 
@@ -153,7 +156,7 @@ class Maker:
             self.web.put_attachments(post.n, {})
             return post
         raw = self.archive.post(post.n, entry.size)
-        shown = message.read(raw)
+        shown = self.reader.read(raw)
         names = files.safe_names(shown.attachments)
         self.web.put_attachments(post.n, {name: attachment.content for name, attachment in zip(names, shown.attachments)})
         if self.site.gives_source:
