@@ -23,12 +23,14 @@ FOLDER = re.compile('[1-9][0-9]{0,7}', re.ASCII)
 class Web:
     """The folder that a web server serves."""
 
-    def __init__(self, folder: pathlib.Path) -> None:
+    def __init__(self, folder: pathlib.Path, within: tuple[str, ...] = ('thread',)) -> None:
+        """Makes the folder, and those within it."""
         self.folder = folder
         self.root = str(folder)
         self.new = os.path.join(self.root, NEW)
         folder.mkdir(parents=True, exist_ok=True)
-        (folder / 'thread').mkdir(exist_ok=True)
+        for name in within:
+            (folder / name).mkdir(exist_ok=True)
 
     def put(self, name: str, content: bytes) -> bool:
         """Gives a file bytes, by rename, unless it has them. The answer is whether it hadn't."""
@@ -64,6 +66,11 @@ class Web:
     def clear(self) -> None:
         """Removes what a run that was killed left half written."""
         self.remove(NEW)
+
+
+def is_site(folder: pathlib.Path) -> bool:
+    """Whether a folder has what each site has, so that nobody else's pages are removed. The style goes last of all when a site is removed."""
+    return (folder / 'style.css').is_file() and (folder / 'thread').is_dir()
 
 
 def settle(folder: pathlib.Path) -> None:

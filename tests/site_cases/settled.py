@@ -134,22 +134,6 @@ def case_said_of_a_list(world: World) -> None:
     equal('what is made anew', tree(world.web), world.anew())
 
 
-def case_closed(world: World) -> None:
-    """Of a closed archive nothing is written; a list whose options close it is open only if the settings say so."""
-    world.make_list('-b')
-    world.post(mail())
-    world.make()
-    holds('something was written', not world.web.exists() and not world.site.state.exists())
-    world.set(archive='open')
-    world.make()
-    before = tree(world.web)
-    holds('nothing was written', '1.html' in before)
-    world.set(archive='closed')
-    world.post(mail())
-    world.make()
-    equal('what was there', tree(world.web), before)
-
-
 def case_other_lists(world: World) -> None:
     """A list that was put back as it was, and another one in its place, are made anew, and nothing stays of the one before."""
     world.make_list()
