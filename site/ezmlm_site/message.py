@@ -156,8 +156,8 @@ def author_of(value: str) -> str:
     value = ' '.join(value[:words.LONGEST_FIELD].split())  # The patterns are linear only if no two spaces stand together.
     found = re.fullmatch(r'("(?:[^"\\]|\\.)*"|[^"<]*) ?<([^>]*)>.*', value, re.DOTALL)
     if not found:
-        comment = re.fullmatch(r'([^ ()]+) ?\(([^()]+)\)', value)
-        return words.one_line(comment[2] if comment else value, 200)
+        comment = re.fullmatch(r'([^()]*)\(([^()]+)\)', value)  # as `jo@b.org (Jo)`, and `jo at b.org (Jo)`, which archives have
+        return words.one_line(comment[2] if comment and re.search('@| at ', comment[1]) else value, 200)
     name = re.sub(r'\\(.)', r'\1', found[1].strip().removeprefix('"').removesuffix('"'), flags=re.DOTALL)
     return words.one_line(name, 200).strip('"\' ') or words.one_line(found[2], 200)
 

@@ -48,6 +48,8 @@ ROWS = [
     Row('a name with escaped quotes', b'From: "Jo \\"J\\" Doe" <jo@b>\n\n', 'Jo "J" Doe'),
     Row('a name with a bracket in quotes', b'From: "Jo <j> Doe" <jo@b>\n\n', 'Jo <j> Doe'),
     Row('a name in a comment', b'From: jo@b (Jo Doe)\n\n', 'Jo Doe'),
+    Row('a name in a comment of an address without an @', b'From: anne at b.org (Anne)\n\n', 'Anne'),
+    Row('a comment that is of no address', b'From: Anne (at work)\n\n', 'Anne (at work)'),
     Row('a folded name', b'From: Jo\n  Doe\n <jo@b>\n\n', 'Jo Doe'),
     Row('an encoded name', b'From: =?utf-8?q?J=C3=B6_Doe?= <jo@b>\n\n', 'Jö Doe'),
     Row('an encoded name in quotes', b'From: "=?utf-8?B?SsO2?=" <jo@b>\n\n', 'Jö'),
