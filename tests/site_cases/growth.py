@@ -16,8 +16,9 @@ from .world import World, holds
 
 MOST = 2.5
 LEAST = 0.01                           # seconds: less isn't measured well
-SMALLEST, BIGGEST = 4_000, 256_000     # bytes
-MIXES = 20
+SMALLEST, BIGGEST = 8_000, 128_000     # bytes
+LONGEST = 1.0                          # seconds: what takes longer for one mail is long enough to be seen
+MIXES = 4
 # What `email` and the reader of HTML may take longer for, and the worker ends: `email` compares each line to each boundary around it.
 ENDED = 'html of ', 'parts of HTML', 'parts within parts'
 FIELDS = 'From: A B <a@b>\nTo: cats@ex.org\nSubject: x\n'
@@ -121,18 +122,22 @@ def taken(do: Callable[[], object]) -> float:
 
 
 def growth(make: Callable[[int], Callable[[], object]]) -> tuple[float, int]:
-    """How many times longer twice the bytes take at the most, where that can be measured, and at which size."""
-    worst, at = 0.0, 0
-    size, before = SMALLEST, taken(make(SMALLEST))
-    while size < BIGGEST and worst <= MOST:
+    """How many times longer twice the bytes take, and at which size, if it is too long at two sizes one after the other, or one takes a second; else 0. What other
+    processes do to the measure, they do to one size and not to both, each of which is measured again."""
+    size, before, suspected = SMALLEST, taken(make(SMALLEST)), 0.0
+    while (size < BIGGEST or suspected and size < 2 * BIGGEST) and before < LONGEST:
         size *= 2
         now = taken(make(size))
-        if before >= LEAST and now > before * MOST:  # It may have been another process: both again.
-            now, before = min(now, taken(make(size))), max(before, taken(make(size // 2)))
-        if before >= LEAST and now / before > worst:
-            worst, at = now / before, size
+        for _round in range(3):
+            if before < LEAST or now <= before * MOST:
+                break
+            before, now = max(before, taken(make(size // 2))), min(now, taken(make(size)))
+        ratio = now / before if before >= LEAST else 0.0
+        if suspected and ratio > MOST:
+            return min(suspected, ratio), size
+        suspected = ratio if ratio > MOST else 0.0
         before = now
-    return worst, at
+    return (before / LONGEST * MOST, size) if before > LONGEST else (0.0, 0)
 
 
 def case_growth(_: World) -> None:
