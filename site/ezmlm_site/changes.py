@@ -2,7 +2,9 @@
 
 from __future__ import annotations
 
+import contextlib
 import os
+import pathlib
 from collections.abc import Iterator
 
 from . import files, pages, settings
@@ -54,6 +56,20 @@ def sweep(site: settings.Site, web: files.Web, store: Store) -> None:
             posts = store.number('SELECT posts FROM thread WHERE thread = ?', int(match[1]))
             if (int(match[2] or 1) - 1) * pages.THREAD_POSTS >= posts:
                 web.remove(f'thread/{entry.name}')
+
+
+def sweep_all(site: settings.Site, web: files.Web) -> None:
+    """Removes all that a site has written. Files of other names stay, and so do the folders that have them."""
+    store = Store(pathlib.Path(':memory:'))
+    try:
+        sweep(site, web, store)
+    finally:
+        store.close()
+    web.clear()
+    for name in ('feed.xml', 'index.html', 'style.css'):
+        web.remove(name)
+    with contextlib.suppress(OSError):
+        os.rmdir(os.path.join(web.root, 'thread'))
 
 
 def has_post(site: settings.Site, store: Store, n: int, is_source: bool) -> bool:

@@ -18,7 +18,7 @@ import sys
 import time
 from collections.abc import Iterator
 
-from . import archive, changes, files, message, pages, settings, words
+from . import archive, changes, files, pages, reading, settings, words
 from .store import Page, Post, Store
 
 BATCH = 4000  # pages that are written between two syncs: on a busy disk a sync takes longer than they do
@@ -35,6 +35,7 @@ class Maker:
         self.site = site
         self.is_anew = is_anew
         self.archive = archive.Archive(program, site.folder, patience)
+        self.reader = reading.Reader()
         self.path = site.state / f'{site.name}.sqlite'
         self.coming = site.state / f'{site.name}.sqlite.new'
 
@@ -42,7 +43,7 @@ class Maker:
         """Brings the site to what the list is now, and tells what was done."""
         configuration = self.archive.configuration()
         if is_closed(self.site, configuration):
-            return 'the archive is closed, and nothing is written'
+            return self.close()
         self.local, self.host = configuration['local'], configuration['host']
         self.basis = basis_of(self.site, self.local, self.host)
         self.shorten = words.shortener(self.site.addresses, self.local, self.host)
@@ -54,8 +55,28 @@ class Maker:
             except sqlite3.DatabaseError:
                 self.coming.unlink(missing_ok=True)  # It may be what a crash of the machine left, since it isn't synced.
                 raise
+            finally:
+                self.reader.close()
             self.web.clear()
         return f'{posts} posts, {written} pages written'
+
+    def close(self) -> str:
+        """Removes all pages of a list whose archive is closed. The store that the search reads goes first; under another name it tells a run that
+        comes after a kill that pages may be left."""
+        told = 'the archive is closed, and nothing is written'
+        closing = pathlib.Path(f'{self.path}.closing')
+        if not (any(path.exists() for path in (closing, self.path, self.coming)) or files.is_site(self.site.web)):
+            return told
+        self.site.state.mkdir(parents=True, exist_ok=True)
+        with alone(self.site.state / f'{self.site.name}.lock'):
+            if self.path.exists():
+                os.replace(self.path, closing)
+            if files.is_site(self.site.web):
+                changes.sweep_all(self.site, files.Web(self.site.web))
+            for path in (self.coming, pathlib.Path(f'{self.coming}-journal'), pathlib.Path(f'{self.path}-journal'), closing):
+                path.unlink(missing_ok=True)
+            files.settle(self.site.state)
+        return f'{told}; the pages that were there are removed'
 
     def bring(self, store: Store) -> tuple[int, int]:
         """Takes in what is new, and writes the pages. The answer is how many posts there are, and how many pages were written."""
@@ -98,13 +119,14 @@ class Maker:
 
     def begin(self) -> Store:
         """An empty store beside the one that there is."""
-        for name in (self.coming, pathlib.Path(f'{self.coming}-journal')):
+        for name in (self.coming, pathlib.Path(f'{self.coming}-journal'), pathlib.Path(f'{self.path}.closing')):
             name.unlink(missing_ok=True)
         store = Store(self.coming, is_synced=False)
         os.chmod(self.coming, 0o640)
         with store.change():
             store.tell('basis', self.basis)
             store.tell('title', self.site.title or f'{self.local}@{self.host}')
+            store.tell('address', f'{self.local}@{self.host}')
             store.tell('is_swept', 'no')
             store.mark([Page('index'), Page('feed')])
         return store
@@ -153,7 +175,7 @@ class Maker:
             self.web.put_attachments(post.n, {})
             return post
         raw = self.archive.post(post.n, entry.size)
-        shown = message.read(raw)
+        shown = self.reader.read(raw)
         names = files.safe_names(shown.attachments)
         self.web.put_attachments(post.n, {name: attachment.content for name, attachment in zip(names, shown.attachments)})
         if self.site.gives_source:

@@ -10,7 +10,8 @@ from collections.abc import Iterator
 
 from markupsafe import Markup, escape
 
-FOLDED = 20  # a quote of more lines is folded
+FOLDED = 20   # a quote of more lines is folded
+WIDEST = 120  # characters of a fixed width: a page has room for fewer
 LINK = re.compile(r'\b(?:https?://|ftp://|mailto:(?=[^\s<>"@]{1,64}@))[^\s<>"\x00-\x20]{1,2000}', re.IGNORECASE)
 SCHEME = re.compile(r'(?:https?|ftp)://[^/?#]|mailto:.', re.IGNORECASE)
 QUOTE = re.compile(r'\s{0,3}>')
@@ -32,7 +33,7 @@ def marked_up(text: str) -> Markup:
 def block(kind: str, lines: list[str]) -> str:
     """One block as markup."""
     if kind == 'fixed':
-        return f'<pre tabindex="0">{linked(chr(10).join(lines))}</pre>\n'
+        return f'<pre{stop(lines)}>{linked(chr(10).join(lines))}</pre>\n'
     markup = linked('\n'.join(lines)).replace('\n', '<br>')
     if kind == 'quote':
         quote = f'<blockquote dir="auto"><p>{markup}</p></blockquote>\n'
@@ -41,6 +42,12 @@ def block(kind: str, lines: list[str]) -> str:
         return quote
     of_class = ' class="signature"' if kind == 'signature' else ''
     return f'<p{of_class} dir="auto">{markup}</p>\n'
+
+
+def stop(lines: list[str]) -> str:
+    """What makes a block of lines a stop for the Tab key: only if it is wider than any page, and so scrolls. Browsers that see by themselves
+    whether a block scrolls make it a stop in a narrower window too."""
+    return ' tabindex="0"' if any(len(line.expandtabs(8)) > WIDEST for line in lines) else ''
 
 
 def blocks(lines: list[str]) -> Iterator[tuple[str, list[str]]]:

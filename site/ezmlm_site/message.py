@@ -8,6 +8,7 @@ from __future__ import annotations
 
 import dataclasses
 import email
+import email.feedparser
 import email.message
 import email.policy
 import email.utils
@@ -18,6 +19,7 @@ import html2text
 
 from . import words
 
+FED = 8192                   # bytes that `email` is given at once
 LONGEST_LINE = 1_000_000     # bytes
 MOST_HELD = 45_000_000       # bytes that `email` holds of a mail: twice those past ASCII, and 60 for each line
 MOST_COMPARED = 8_000_000    # lines times boundaries
@@ -74,22 +76,51 @@ class Shown:
 
 def read(raw: bytes) -> Shown:
     """What is shown of a mail, which may be any bytes. It never raises, unless memory runs out."""
+    shown = with_fields(raw)
+    try:
+        bound(raw)
+        look_at_parts(parsed(raw), shown)
+    except Exception as error:  # The same, and RecursionError and MemoryError among it.
+        shown.notes.append(why_source(str(error) if isinstance(error, Unreadable) else 'it isn\'t in the form that mails have'))
+        show_source(raw, shown)
+    return shown
+
+
+def parsed(raw: bytes) -> email.message.Message:
+    """A mail by `email`, which gets it in pieces: `message_from_bytes` would hold all of it three times more, once with four bytes a character."""
+    parser = email.feedparser.BytesFeedParser(policy=POLICY)
+    for at in range(0, len(raw), FED):
+        parser.feed(raw[at:at + FED])
+    return parser.close()
+
+
+def read_as_source(raw: bytes) -> Shown:
+    """What is shown of a mail that isn't taken apart: its fields and its source."""
+    shown = with_fields(raw)
+    show_source(raw, shown)
+    return shown
+
+
+def with_fields(raw: bytes) -> Shown:
+    """What the fields of a mail say."""
     shown = Shown()
     header = raw[:MOST_HEADER].replace(b'\r\n', b'\n').partition(b'\n\n')[0]
     try:
         look_at_fields(email.message_from_bytes(header + b'\n\n', policy=POLICY), shown)
     except Exception:  # Whatever `email` raises, for which there is no list.
         shown.notes.append('The fields of this mail can\'t be read.')
-    try:
-        bound(raw)
-        look_at_parts(email.message_from_bytes(raw, policy=POLICY), shown)
-    except Exception as error:  # The same, and RecursionError and MemoryError among it.
-        why = str(error) if isinstance(error, Unreadable) else 'it isn\'t in the form that mails have'
-        shown.notes.append(f'This mail can\'t be taken apart ({why}), so its source is shown.')
-        shown.is_source = True
-        shown.attachments = []
-        shown.text = words.clean(words.decoded(raw[:4 * MOST_SOURCE], None))[:MOST_SOURCE]
     return shown
+
+
+def why_source(why: str) -> str:
+    """The note of a mail that is shown as its source."""
+    return f'This mail can\'t be taken apart ({why}), so its source is shown.'
+
+
+def show_source(raw: bytes, shown: Shown) -> None:
+    shown.is_source = True
+    shown.attachments = []
+    shown.text = words.clean(words.decoded(raw[:4 * MOST_SOURCE], None))[:MOST_SOURCE]
 
 
 def bound(raw: bytes) -> None:
@@ -125,8 +156,8 @@ def author_of(value: str) -> str:
     value = ' '.join(value[:words.LONGEST_FIELD].split())  # The patterns are linear only if no two spaces stand together.
     found = re.fullmatch(r'("(?:[^"\\]|\\.)*"|[^"<]*) ?<([^>]*)>.*', value, re.DOTALL)
     if not found:
-        comment = re.fullmatch(r'([^ ()]+) ?\(([^()]+)\)', value)
-        return words.one_line(comment[2] if comment else value, 200)
+        comment = re.fullmatch(r'([^()]*)\(([^()]+)\)', value)  # as `jo@b.org (Jo)`, and `jo at b.org (Jo)`, which archives have
+        return words.one_line(comment[2] if comment and re.search('@| at ', comment[1]) else value, 200)
     name = re.sub(r'\\(.)', r'\1', found[1].strip().removeprefix('"').removesuffix('"'), flags=re.DOTALL)
     return words.one_line(name, 200).strip('"\' ') or words.one_line(found[2], 200)
 

@@ -12,7 +12,7 @@ from typing import Any
 
 import jinja2
 
-from . import markup, settings
+from . import files, markup, settings
 from .store import Page, Post, Store
 
 OWN = pathlib.Path(__file__).parent / 'templates'
@@ -117,7 +117,7 @@ def environment(site: settings.Site) -> jinja2.Environment:
     made = jinja2.Environment(loader=jinja2.FileSystemLoader(folders), autoescape=True, trim_blocks=True, lstrip_blocks=True,
                               undefined=jinja2.StrictUndefined, keep_trailing_newline=True, auto_reload=False)
     when = functools.partial(shown_time, zone=zoneinfo.ZoneInfo(site.timezone))
-    made.filters.update(marked_up=markup.marked_up, when=when, rfc3339=rfc3339, bytes=bytes_in_words, mailto=mailto)
+    made.filters.update(marked_up=markup.marked_up, when=when, rfc3339=rfc3339, bytes=bytes_in_words, mailto=mailto, kept_name=files.kept_name)
     made.globals.update(site=site, up='')
     return made
 

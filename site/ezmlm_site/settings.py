@@ -36,21 +36,23 @@ class Site:
     archive: str = 'list'                    # one of ARCHIVES: as the list's options say, or whatever they say
     noindex: bool = False                    # whether robots are told not to index
     search: bool = False                     # whether the pages have a form for it
-    source: bool | None = None               # whether each post's bytes are given; None: unless addresses are hidden
+    source: bool = False                     # whether each post's bytes are given, with all addresses that stand in them
     first: int = 1                           # posts before this one aren't shown
     left_out: frozenset[int] = frozenset()   # the numbers of posts that are neither shown nor searched
     templates: pathlib.Path | None = None    # looked in before the site's own
 
     @property
     def gives_source(self) -> bool:
-        return self.addresses != 'hidden' if self.source is None else self.source
+        """The same as `source`, by the name that templates have."""
+        return self.source
 
 
 @dataclasses.dataclass(frozen=True)
 class Settings:
-    """What the file says: the program's path, and the lists in the order of their sections."""
+    """What the file says: the program's path, the lists in the order of their sections, and the page of all of them, if there is one."""
     program: str
     sites: tuple[Site, ...]
+    host: Site | None = None
 
 
 def read(path: str) -> Settings:
@@ -60,16 +62,27 @@ def read(path: str) -> Settings:
         with open(path, encoding='utf-8') as file:
             parser.read_file(file)
         general = dict(parser['site']) if parser.has_section('site') else {}
-        if unknown := general.keys() - {'program', 'state'}:
+        if unknown := general.keys() - {'program', 'state', *OF_HOST}:
             raise ValueError(f'[site] has unknown settings: {", ".join(sorted(unknown))}')
         names = [name for name in parser.sections() if name != 'site']
         if not names:
             raise ValueError('there is no section of a list')
         sites = tuple(site_of(name, dict(parser[name]), general.get('state')) for name in names)
-        check_apart(sites)
+        host = host_of(general)
+        check_apart(sites, host)
     except (OSError, configparser.Error, ValueError) as error:
         raise ValueError(f'{path}: {error}') from error
-    return Settings(general.get('program', PROGRAM), sites)
+    return Settings(general.get('program', PROGRAM), sites, host)
+
+
+def host_of(general: dict[str, str]) -> Site | None:
+    """The page of all lists, by what [site] says of it. Its `folder` is that of the state, since it has no list."""
+    given = {key: text for key, text in general.items() if key in OF_HOST}
+    if 'web' not in given:
+        if given:
+            raise ValueError(f'[site] has {", ".join(sorted(given))}, and no web, the folder of the page of all lists')
+        return None
+    return site_of('site', given | {'folder': general.get('state', '')}, general.get('state'))
 
 
 def site_of(name: str, given: dict[str, str], state: str | None) -> Site:
@@ -93,10 +106,11 @@ def site_of(name: str, given: dict[str, str], state: str | None) -> Site:
     return Site(name=name, **values)  # type: ignore[arg-type]
 
 
-def check_apart(sites: tuple[Site, ...]) -> None:
-    """A ValueError if two lists would be written into one folder, or a list's folder would be written into."""
+def check_apart(sites: tuple[Site, ...], host: Site | None) -> None:
+    """A ValueError if two lists would be written into one folder, or a list's folder would be written into. The page of all lists may stand above
+    the folders of lists."""
     taken: dict[pathlib.Path, str] = {}
-    for site in sites:
+    for site in [*sites, *([host] if host else [])]:
         web = site.web.resolve()
         if web in taken:
             raise ValueError(f'[{site.name}] and [{taken[web]}] have one web folder')
@@ -174,3 +188,4 @@ READERS: dict[str, Callable[[str], object]] = {
     'language': language, 'timezone': timezone, 'addresses': one_of(*ADDRESSES), 'archive': one_of(*ARCHIVES), 'noindex': flag,
     'search': flag, 'source': flag, 'first': number, 'left_out': numbers,
 }
+OF_HOST = 'web', 'title', 'description', 'url', 'language', 'timezone', 'noindex', 'search', 'templates'  # what [site] says of the page of all lists

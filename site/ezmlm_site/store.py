@@ -14,6 +14,8 @@ import sqlite3
 from collections.abc import Iterable, Iterator
 from typing import Any
 
+from . import scripts
+
 SCHEMA = """
 CREATE TABLE told (name TEXT PRIMARY KEY, value TEXT NOT NULL) WITHOUT ROWID;
 CREATE TABLE post (n INTEGER PRIMARY KEY, thread INTEGER NOT NULL, place INTEGER NOT NULL, moment INTEGER NOT NULL, month TEXT NOT NULL,
@@ -140,12 +142,13 @@ class Store:
         before = self.post(post.n)
         if before and not before.is_out:
             change("INSERT INTO words (words, rowid, author, subject, text) VALUES ('delete', ?, ?, ?, ?)",
-                   (before.n, before.author, before.subject, before.text))
+                   (before.n, *map(scripts.spaced, (before.author, before.subject, before.text))))
         rest = json.dumps([post.message_id, post.is_source, post.notes, post.fields, post.files], ensure_ascii=False)
         change(f'INSERT OR REPLACE INTO post ({POST}) VALUES (?, ?, ?, ?, ?, ?, ?, ?, ?, ?)',
                (post.n, post.thread, post.place, post.moment, post.month, post.is_out, post.author, post.subject, post.text, rest))
         if not post.is_out:
-            change('INSERT INTO words (rowid, author, subject, text) VALUES (?, ?, ?, ?)', (post.n, post.author, post.subject, post.text))
+            change('INSERT INTO words (rowid, author, subject, text) VALUES (?, ?, ?, ?)',
+                   (post.n, *map(scripts.spaced, (post.author, post.subject, post.text))))
 
     def mark(self, pages: Iterable[Page]) -> None:
         """Notes pages that are to be written."""

@@ -10,7 +10,7 @@ import sys
 import traceback
 from collections.abc import Callable
 
-from . import escapes, growing, hostile, killed, looks, mails, searching, settled
+from . import closing, ended, escapes, growing, growth, hostile, killed, looks, mails, searching, settled
 from .world import TOP, Skipped, World, Wrong
 
 AT_ONCE = 2
@@ -20,7 +20,7 @@ Case = Callable[[World], None]
 def cases() -> dict[str, Case]:
     """The cases by their names, the longest first."""
     found: dict[str, Case] = {}
-    for module in (killed, hostile, growing, looks, settled, searching, mails, escapes):
+    for module in (growth, killed, hostile, ended, closing, growing, looks, settled, searching, mails, escapes):
         found.update({name.removeprefix('case_'): call for name, call in vars(module).items() if name.startswith('case_')})
     return found
 

@@ -101,6 +101,12 @@ def case_folds(_: World) -> None:
         holds('the quote is there', found.count('&gt; x') == count)
 
 
+def case_stops(_: World) -> None:
+    """A block of a fixed width is a stop for the Tab key only if it is wider than any page."""
+    for line, is_stop in (('    code()', False), ('\t' + 'x' * 112, False), ('\t' + 'x' * 113, True), ('    ' + 'x' * 300, True)):
+        equal(f'whether {line[:20]!a}, {len(line)} characters, is a stop', 'tabindex' in str(markup.marked_up(line)), is_stop)
+
+
 def case_elements(_: World) -> None:
     """Whatever the text, the markup has seven elements alone, and no attribute but those that are written here."""
     pieces = ['<script>', '"', "'", '>', '<', '&', '=', 'http://a.b/', 'mailto:a@b', 'javascript:', ' on', '\n', '\n\n', '> ', '    ', '--- ', '+++ ', '-- ', '|', '\t',

@@ -108,4 +108,4 @@ def case_bytes(world: World) -> None:
     world.make()
     equal('the source', (world.web / '1.eml').read_bytes(), world.ask('show', '1'))
     equal('the attachment', (world.web / '1/1-a_b.bin').read_bytes(), b'\0\1\2\xff')
-    holds('the page leads to it', 'href="1/1-a_b.bin" download' in world.page('1.html'))
+    holds('the page leads to it', 'href="1/1-a_b.bin" download="a b.bin"' in world.page('1.html'))

@@ -14,13 +14,14 @@ from .world import BEGAN, TOP, Skipped, World, equal, holds, mail, tree
 
 LAST = 253_402_300_799  # Fri, 31 Dec 9999 23:59:59 UTC
 MOST_MEMORY = 200       # MiB
-# A run that tells its own peak of memory.
+# A run that tells its own peak of memory, and the highest of its processes, in KiB.
 RUN = """
-import sys
-from ezmlm_site.__main__ import main
-status = main(sys.argv[1:])
-print(next(line for line in open('/proc/self/status') if line.startswith('VmHWM')))
-sys.exit(status)
+import resource, sys
+from ezmlm_site import making, settings
+chosen = settings.read(sys.argv[2])
+making.Maker(sys.argv[1], chosen.sites[0], False).run()
+own = next(int(line.split()[1]) for line in open('/proc/self/status') if line.startswith('VmHWM'))
+print(own, resource.getrusage(resource.RUSAGE_CHILDREN).ru_maxrss)
 """
 MARKUP = b'</title></pre></p><script>document.title="ran"</script><img src=x onerror=alert(1)>'
 CORPUS = pathlib.Path('/usr/lib/python3.11/test/test_email/data')
@@ -128,14 +129,14 @@ def case_hostile(world: World) -> None:
     place = world.place / 'site.conf'
     fill(world.list, ((BEGAN + n, b'topic %d' % n, raw) for n, (_, raw) in enumerate(ROWS)))
     equal('what `check` says', world.ask('check').split()[:2], [b'ok', b'%d' % len(ROWS)])
-    place.write_text(f'[cats]\nfolder = {world.list}\nweb = {world.web}\nstate = {world.place / "st"}\nsearch = yes\naddresses = shown\n')
+    place.write_text(f'[cats]\nfolder = {world.list}\nweb = {world.web}\nstate = {world.place / "st"}\nsearch = yes\naddresses = shown\nsource = yes\n')
     begun = time.monotonic()
-    done = subprocess.run(['/usr/bin/python3', '-P', '-c', RUN, '--program', world.program, place], env=os.environ | {'PYTHONPATH': str(TOP / 'site')},
+    done = subprocess.run(['/usr/bin/python3', '-P', '-c', RUN, world.program, place], env=os.environ | {'PYTHONPATH': str(TOP / 'site')},
                           capture_output=True, text=True, check=False)
-    holds(f'what the run said is {done.stdout!a} {done.stderr!a}', done.returncode == 0 and done.stdout.startswith('VmHWM:') and not done.stderr)
+    holds(f'what the run said is {done.stdout!a} {done.stderr!a}', done.returncode == 0 and not done.stderr)
     holds('it took ten minutes', time.monotonic() - begun < 600)
-    peak = int(done.stdout.split()[1]) // 1024
-    holds(f'its peak of memory was {peak} MiB', peak <= MOST_MEMORY)
+    peaks = [int(word) // 1024 for word in done.stdout.split()]
+    holds(f'its peaks of memory were {peaks} MiB', sum(peaks) <= MOST_MEMORY)
     web = world.web
     for n, (about, raw) in enumerate(ROWS, 1):
         holds(f'{about}: there is no page', (web / f'{n}.html').is_file())

@@ -48,6 +48,8 @@ ROWS = [
     Row('a name with escaped quotes', b'From: "Jo \\"J\\" Doe" <jo@b>\n\n', 'Jo "J" Doe'),
     Row('a name with a bracket in quotes', b'From: "Jo <j> Doe" <jo@b>\n\n', 'Jo <j> Doe'),
     Row('a name in a comment', b'From: jo@b (Jo Doe)\n\n', 'Jo Doe'),
+    Row('a name in a comment of an address without an @', b'From: anne at b.org (Anne)\n\n', 'Anne'),
+    Row('a comment that is of no address', b'From: Anne (at work)\n\n', 'Anne (at work)'),
     Row('a folded name', b'From: Jo\n  Doe\n <jo@b>\n\n', 'Jo Doe'),
     Row('an encoded name', b'From: =?utf-8?q?J=C3=B6_Doe?= <jo@b>\n\n', 'Jö Doe'),
     Row('an encoded name in quotes', b'From: "=?utf-8?B?SsO2?=" <jo@b>\n\n', 'Jö'),
@@ -131,11 +133,16 @@ ROWS = [
 ]
 
 NAMES = [
-    ('cat.png', '1-cat.png'), ('../../etc/passwd', '1-passwd'), ('..\\..\\a.exe', '1-a.exe'), ('..', '1-file'), ('.htaccess', '1-htaccess'), ('', '1-file'),
-    ('a b  c.txt', '1-a_b_c.txt'), ('grüße.pdf', '1-gr_e.pdf'), ('猫.png', '1-_.png'), ('a\0b.html', '1-a_b.html'), ('x/', '1-file'),
-    ('a' * 300 + '.tar.gz', '1-' + 'a' * 60 + '.gz'), ('a.' + 'b' * 300, '1-a.' + 'b' * 12), ('<script>.html', '1-_script_.html'), ('-rf', '1--rf'),
-    ('"onload=x".png', '1-_onload_x_.png'), ('%2e%2e%2fx', '1-_2e_2e_2fx'), ('a\nb', '1-a_b'), ('con.txt', '1-con.txt'), ('\u202egnp.exe', '1-_gnp.exe'),
+    ('cat.png', '1-cat.png'), ('../../etc/passwd', '1-passwd.bin'), ('..\\..\\a.exe', '1-a_exe.bin'), ('..', '1-file.bin'), ('.htaccess', '1-htaccess.bin'),
+    ('', '1-file.bin'), ('a b  c.txt', '1-a_b_c.txt'), ('grüße.pdf', '1-gr_e.pdf'), ('猫.png', '1-file.png'), ('a\0b.html', '1-a_b_html.bin'), ('x/', '1-file.bin'),
+    ('a' * 300 + '.tar.gz', '1-' + 'a' * 60 + '.gz'), ('x.tar.gz', '1-x_tar.gz'), ('a.' + 'b' * 300, '1-a_' + 'b' * 58 + '.bin'), ('-rf', '1--rf.bin'),
+    ('<script>.html', '1-script_html.bin'), ('"onload=x".png', '1-onload_x.png'), ('%2e%2e%2fx', '1-2e_2e_2fx.bin'), ('a\nb', '1-a_b.bin'), ('con.txt', '1-con.txt'),
+    ('\u202egnp.exe', '1-gnp_exe.bin'), ('a.php', '1-a_php.bin'), ('a.php.png', '1-a_php.png'), ('a.PHP', '1-a_PHP.bin'), ('A.PNG', '1-A.png'), ('a.php.', '1-a_php.bin'),
+    ('a.php. .', '1-a_php.bin'), ('a.png.', '1-a.png'), ('a.phtml', '1-a_phtml.bin'), ('a.shtml', '1-a_shtml.bin'), ('a.cgi', '1-a_cgi.bin'), ('a.svg', '1-a_svg.bin'),
+    ('index.html', '1-index_html.bin'), ('a.png\0.php', '1-a_png_php.bin'), ('.png', '1-png.bin'), ('f.bin', '1-f.bin'), ('a.ｐｈｐ', '1-a.bin'), ('a.php%00.png', '1-a_php_00.png'),
 ]
+# A name as the sender gave it, and the one under which a browser is told to keep the file.
+KEPT = [('a.phtml', 'a.phtml'), ('../../etc/passwd', 'passwd'), ('..\\x.exe', 'x.exe'), ('.htaccess', 'htaccess'), ('..', 'file'), ('', 'file'), ('猫.png', '猫.png')]
 
 SHORTENED = [
     # A text, and what it is with addresses shortened and hidden.
@@ -173,6 +180,9 @@ def case_names_of_files(_: World) -> None:
     """Names of attachments, and the names of their files."""
     for name, wanted in NAMES:
         equal(f'the file of {name!a}', files.safe_name(1, name), wanted)
+        holds(f'the file of {name!a} has another kind', wanted.count('.') == 1 and wanted.rpartition('.')[2] in files.KINDS)
+    for name, wanted in KEPT:
+        equal(f'the name to keep {name!a} under', files.kept_name(name), wanted)
 
 
 def case_addresses(_: World) -> None:

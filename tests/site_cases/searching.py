@@ -2,6 +2,7 @@
 
 from __future__ import annotations
 
+import base64
 import datetime
 import os
 import re
@@ -9,7 +10,7 @@ import subprocess
 import time
 import urllib.parse
 
-from ezmlm_site import search, store
+from ezmlm_site import crowd, cuts, query, search, store
 
 from .world import BEGAN, DAY, TOP, World, equal, holds, mail
 
@@ -19,20 +20,23 @@ ROWS = [
     ('subject:"a cat"', [4]), ('gruße', [3]), ('grüße', [3]), ('after:2001-09-10', [4, 3]), ('before:2001-09-10', [2, 1]), ('after:2001-09-10 before:2001-09-11', [3]),
     ('before:2001', []), ('after:2001', [4, 3, 2, 1]), ('cat after:2001-09-11', [4]), ('cat OR mouse', [4, 2, 1]), ('cat NOT dog', [1]), ('ca*', [4, 1]),
     ('nothing', []), ('author:jo mouse', [2]),
-    # What FTS5 refuses is taken as plain words.
+    # Words that are left out, parentheses, and what binds how.
+    ('cat -dog', [1]), ('-dog cat', [1]), ('-"big cat" cat', [4]), ('cat -author:a', []), ('mouse OR -dog cat', [2, 1]), ('(cat OR mouse) -dog', [2, 1]), ('cat -(dog)', [4]),
+    ('((cat))', [4, 1]), ('(cat dog) OR mouse', [4, 2]), ('cat AND dog', [4]), ('NOT dog cat', [1]),
+    # Operators that make no sense are taken as plain words, and so is what has none.
     ("it's", [2]), ('c++', [2]), ('big-cat', [1]), ('cat AND', [4]), ('"big', [1]), ('(', []), ('*', []), ('cat"', [4, 1]), ('none:cat', []), ('^', []), ('a\0b', [4, 2, 1]),
     ('author:', []), ('author:"jo', [3, 2]), ('-', []), ("'; DROP TABLE post; --", []), ('NEAR(', []), ('{x}', [2]), ('%', []),
 ]
 WRONG = ['after:yesterday', 'before:2001-13', 'after:2001-02-30', 'before:0000', 'after:99999', 'x' * 201]
 
 
-def ask(application: search.Search, query: str, path: str = '/cats/search', method: str = 'GET') -> tuple[str, dict[str, str], str]:
+def ask(application: search.Search, asked: str, path: str = '/cats/search', method: str = 'GET') -> tuple[str, dict[str, str], str]:
     """The status, the fields and the page of an answer."""
     told: list[tuple[str, list[tuple[str, str]]]] = []
 
     def start(status: str, fields: list[tuple[str, str]]) -> None:
         told.append((status, fields))
-    body = b''.join(application({'REQUEST_METHOD': method, 'PATH_INFO': path, 'SCRIPT_NAME': '', 'QUERY_STRING': query}, start))
+    body = b''.join(application({'REQUEST_METHOD': method, 'PATH_INFO': path, 'SCRIPT_NAME': '', 'QUERY_STRING': asked}, start))
     status, fields = told[0]
     return status, dict(fields), body.decode()
 
@@ -57,12 +61,12 @@ def made(world: World) -> search.Search:
 def case_search(world: World) -> None:
     """Rows of queries, and the posts that each finds; those that are at fault are refused in words."""
     application = made(world)
-    for query, wanted in ROWS:
-        status, _, page = ask(application, urllib.parse.urlencode({'q': query}))
-        equal(f'{query!a}', (status, found(page)), ('200 OK', wanted))
-    for query in WRONG:
-        status, _, page = ask(application, urllib.parse.urlencode({'q': query}))
-        holds(f'{query[:30]!a} is answered {status}', status == '400 Bad Request' and 'class="note"' in page and not found(page))
+    for text, wanted in ROWS:
+        status, _, page = ask(application, urllib.parse.urlencode({'q': text}))
+        equal(f'{text!a}', (status, found(page)), ('200 OK', wanted))
+    for text in WRONG:
+        status, _, page = ask(application, urllib.parse.urlencode({'q': text}))
+        holds(f'{text[:30]!a} is answered {status}', status == '400 Bad Request' and 'class="note"' in page and not found(page))
     equal('by rank', sorted(found(ask(application, 'q=cat&by=rank')[2])), [1, 4])
     page = ask(application, urllib.parse.urlencode({'q': '"big cat"'}))[2]
     holds('what was found is marked', 'the <mark>big cat</mark> sleeps' in page or 'the <mark>big</mark> <mark>cat</mark> sleeps' in page)
@@ -70,8 +74,8 @@ def case_search(world: World) -> None:
     for evil in ('<script>alert(1)</script>', '"><img src=x onerror=alert(1)>', '\x02\x03</mark>'):
         page = ask(application, urllib.parse.urlencode({'q': evil}))[2]
         holds(f'{evil!a} is markup', '<script' not in page and '<img' not in page and '</mark>' not in page)
-    for query in ('', 'q=', 'q=%ff%fe', 'q=%', 'x', 'q=cat&page=0', 'q=cat&page=x', 'q=cat&page=99999999999', 'q=cat&q=dog', '&' * 5000, 'q=' + '%61' * 1300):
-        holds(f'{query[:40]!a} is answered {ask(application, query)[0]}', ask(application, query)[0][:3] in ('200', '400'))
+    for asked in ('', 'q=', 'q=%ff%fe', 'q=%', 'x', 'q=cat&page=0', 'q=cat&page=x', 'q=cat&page=99999999999', 'q=cat&q=dog', '&' * 5000, 'q=' + '%61' * 1300):
+        holds(f'{asked[:40]!a} is answered {ask(application, asked)[0]}', ask(application, asked)[0][:3] in ('200', '400'))
 
 
 def case_search_pages(world: World) -> None:
@@ -131,14 +135,56 @@ def case_search_limits(world: World) -> None:
     equal('the next one', ask(application, 'q=mouse')[0], '200 OK')
     (world.site.state / 'cats.sqlite').rename(world.place / 'gone')
     status, _, page = ask(application, 'q=cat')
-    holds(f'without an index it is answered {status}', status.startswith('503') and 'read now' in page)
+    holds(f'without an index it is answered {status}', status.startswith('404') and 'no search of this list' in page)
     holds('a file was made', not (world.site.state / 'cats.sqlite').exists())
     (world.site.state / 'cats.sqlite').write_bytes(b'no database' * 999)
     holds('a spoiled index is told', ask(application, 'q=cat')[0].startswith('503'))
+
+
+CJK = ['東京都に猫がいます。', '京都の犬は、かわいい。', '한국어 메일링 리스트의 고양이', '全文検索 with English words', 'ｶﾅ と カナ', '猫']
+# A query, and the posts of CJK that it finds.
+CJK_ROWS = [
+    ('猫', [6, 1]), ('京都', [2, 1]), ('東京', [1]), ('東京都に猫がいます', [1]), ('都東', []), ('かわいい', [2]), ('は、か', [2]), ('は', [2]), ('고양이', [3]), ('리스트', [3]), ('트의', [3]),
+    ('全文検索', [4]), ('検索 english', [4]), ('検索 -english', []), ('京都 -犬', [1]), ('京都 OR 検索', [4, 2, 1]), ('"猫が"', [1]), ('"検索 with"', [4]), ('カナ', [5]), ('ｶﾅ', [5]),
+    ('subject:猫', []), ('subject:件名', [6, 5, 4, 3, 2, 1]), ('東都', []), ('犬京', []),
+]
+
+
+def case_search_of_scripts(world: World) -> None:
+    """Words of Chinese, Japanese and Korean are found, of one character, two and more, and what was found is marked."""
+    world.make_list()
+    world.post(*(mail(f'=?utf-8?b?{base64.b64encode("件名".encode()).decode()}?= {n}', text + '\n', more='Content-Type: text/plain; charset=utf-8\n') for n, text in enumerate(CJK)))
+    world.make()
+    path = world.place / 'site.conf'
+    path.write_text(f'[cats]\nfolder = {world.list}\nweb = {world.web}\nstate = {world.site.state}\nsearch = yes\n')
+    application = search.Search(str(path))
+    for text, wanted in CJK_ROWS:
+        application.crowd = crowd.Crowd()
+        status, _, page = ask(application, urllib.parse.urlencode({'q': text}))
+        equal(f'{text!a}', (status, found(page)), ('200 OK', wanted))
+    page = ask(application, urllib.parse.urlencode({'q': '京都'}))[2]
+    holds('what was found is marked', '東<mark>京都</mark>に猫' in page and '<mark>京都</mark>の犬' in page)
+
+
+CUTS = [
+    ('one big cat', 'cat', 'one big <mark>cat</mark>'), ('a Gruß, GRÜSSE & grüße', 'gruße', 'a Gruß, GRÜSSE &amp; <mark>grüße</mark>'), ('catalogue cat', 'cat', 'catalogue <mark>cat</mark>'),
+    ('catalogue cat', 'cat*', '<mark>catalogue</mark> <mark>cat</mark>'), ('big, old cat', '"big old"', '<mark>big, old</mark> cat'), ('<b>cat</b>', 'cat', '&lt;b&gt;<mark>cat</mark>&lt;/b&gt;'),
+    ('x ' * 200 + 'cat' + ' y' * 200, 'cat', '…' + 'x ' * 49 + '<mark>cat</mark>' + ' y' * 109 + ' …'), ('nothing here', 'cat', 'nothing here'), ('dog cat', '-dog cat', 'dog <mark>cat</mark>'),
+    ('İstanbul cat', 'cat', 'İstanbul <mark>cat</mark>'),
+]
+
+
+def case_cuts(_: World) -> None:
+    """Pieces of texts with what was found in them, marked and escaped."""
+    for text, asked, wanted in CUTS:
+        terms = query.read(asked, datetime.timezone.utc).terms
+        equal(f'{asked!a} in {text[:40]!a}', str(cuts.cut(text, cuts.pattern_of(terms))), wanted)
+    text = 'ſẞİǅ Å é ﬁ 猫 \U0001f600' * 9
+    equal('the length of a folded text', len(cuts.folded(text)), len(text))
 
 
 def case_dates(_: World) -> None:
     """Dates of a query, in a time zone."""
     zone = datetime.timezone(datetime.timedelta(hours=2))
     for text, wanted in (('2001', 978300000), ('2001-09', 999295200), ('2001-09-09', 999986400), ('2001-9-9', 999986400)):
-        equal(text, search.moment_of(text, zone), wanted)
+        equal(text, query.moment_of(text, zone), wanted)

@@ -46,11 +46,11 @@ def refused(path: str, why: str) -> None:
 def case_settings(world: World) -> None:
     """Settings that are taken, and those that are refused by their names."""
     got = settings.read(written(world.place, ('site', {'state': '/s', 'program': '/p'}), ('cats', {'folder': '/l/cats', 'web': '/w/cats', 'left_out': '3, 7-9 12',
-                                'url': 'https://ex.org/cats', 'noindex': 'yes'}), ('dogs', {'folder': '/l/dogs', 'web': '/w/dogs', 'addresses': 'hidden'})))
+                                'url': 'https://ex.org/cats', 'noindex': 'yes'}), ('dogs', {'folder': '/l/dogs', 'web': '/w/dogs', 'source': 'yes'})))
     equal('the program', got.program, '/p')
     equal('the posts left out', got.sites[0].left_out, {3, 7, 8, 9, 12})
     equal('the URL', got.sites[0].url, 'https://ex.org/cats/')
-    equal('noindex, and the source given', (got.sites[0].noindex, got.sites[0].gives_source, got.sites[1].gives_source), (True, True, False))
+    equal('noindex, and the source given', (got.sites[0].noindex, got.sites[0].gives_source, got.sites[1].gives_source), (True, False, True))
     for given, why in REFUSED:
         refused(written(world.place, ('cats', GOOD | given)), why)
     refused(written(world.place, ('cats', {'folder': '/l/cats', 'web': '/w'})), 'wants the settings state')
@@ -97,7 +97,7 @@ def case_addresses_of_pages(world: World) -> None:
     holds('it is shortened', 'write to jo@…' in world.page('1.html'))
     holds('whoever answers names the mail', 'mailto:cats@ex.org?In-Reply-To=%3C1%40id.net%3E&amp;Subject=Re%3A%20to%20jo%40' in world.page('1.html'))
     holds('the list\'s own stays', 'or cats@ex.org' in world.page('1.html'))
-    world.set(addresses='hidden')
+    world.set(addresses='hidden', source=False)
     world.make()
     all_files = tree(world.web)
     holds('an address is there', not any(b'sub.net' in content or b'jo@' in content or b'id.net' in content for content in all_files.values()))
@@ -132,22 +132,6 @@ def case_said_of_a_list(world: World) -> None:
     page = world.page('3.html')
     holds('it has a form, robots or a canonical link', '<form' not in page and 'noindex' not in page and 'canonical' not in page)
     equal('what is made anew', tree(world.web), world.anew())
-
-
-def case_closed(world: World) -> None:
-    """Of a closed archive nothing is written; a list whose options close it is open only if the settings say so."""
-    world.make_list('-b')
-    world.post(mail())
-    world.make()
-    holds('something was written', not world.web.exists() and not world.site.state.exists())
-    world.set(archive='open')
-    world.make()
-    before = tree(world.web)
-    holds('nothing was written', '1.html' in before)
-    world.set(archive='closed')
-    world.post(mail())
-    world.make()
-    equal('what was there', tree(world.web), before)
 
 
 def case_other_lists(world: World) -> None:

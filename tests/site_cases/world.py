@@ -67,7 +67,7 @@ class World:
         self.list = self.place / 'list'
         self.web = self.place / 'web'
         self.count = 0
-        self.site = settings.Site('cats', self.list, self.web, self.place / 'state')
+        self.site = settings.Site('cats', self.list, self.web, self.place / 'state', source=True)
 
     def close(self) -> None:
         shutil.rmtree(self.place, ignore_errors=True)
