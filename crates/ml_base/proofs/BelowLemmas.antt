@@ -28,6 +28,15 @@ not_lt a b e = ap (byte_cmp a) ((bytes_eq-Decides b a).0 e) ∙ tied_itself byte
 pub below_then : (a b c : Text) → is_below a b ≡ true → is_below b c ≡ true → is_below a c ≡ true
 below_then a b c e f = ap is_lt (bytes_total.trans (key a) (key b) (key c) (less _ e) (less _ f))
 
+-- an address that isn't below another, and has another key, is above it
+pub above_else : (a b : Text) → is_below a b ≡ false → (key a ≡ key b → ⊥) → is_below b a ≡ true
+above_else a b e apart = go (byte_cmp (key a) (key b)) refl
+  where
+    go : (r : Ordering) → byte_cmp (key a) (key b) ≡ r → is_below b a ≡ true
+    go Less is = let bad : false ≡ true = sym e ∙ ap is_lt is in cc
+    go Equal is = absurd (apart (same_bytes (key a) (key b) is))
+    go Greater is = ap is_lt (bytes_total.antisymm (key b) (key a) ∙ ap ordering_reverse is)
+
 pub not_equal : (a b : Text) → is_below a b ≡ true → eq_by_cmp byte_cmp (key a) (key b) ≡ false
 not_equal a b e = ap is_eq (less _ e)
 

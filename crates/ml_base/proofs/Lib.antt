@@ -23,6 +23,4 @@ pub mod AddressParts
 pub mod KeptAddresses
 pub mod DamagedNames
 pub mod ReadingLemmas
-pub mod LookupLaws
-pub mod LookupCalls
 mod Examples

@@ -1,19 +1,15 @@
 -- What a call that reads files keeps, joined to what the calls before it kept.
-use Rattle.std.proofs.Common.{◌≡◌, IsTrue, Result, Ok, arith}
+use Rattle.std.proofs.Common.{Result, Ok, arith}
 use Rattle.ml_base.specs.ReadFiles.{AreKept, IsReading}
 use Rattle.ml_base.specs.declared.files.Files.{Ghosts}
 use Rattle.ml_base.specs.declared.part_error.PartError.{PartError}
 
--- the laws of files that are used here: in a function they are `g.met.F.Files.kept_self`, `g.met.F.Files.kept_then` and
--- `g.met.F.Files.kept_map`
+-- the two laws of files that are used here: in a function they are `g.met.F.Files.kept_self` and `g.met.F.Files.kept_then`
 abbrev pub KeepsItself : {F : Type 0} → Ghosts F → Type 0
 KeepsItself {F} ghosts = (files : F) → ghosts.kept files files
 
 abbrev pub KeepsOn : {F : Type 0} → Ghosts F → Type 0
 KeepsOn {F} ghosts = (first second third : F) → ghosts.kept first second → ghosts.kept second third → ghosts.kept first third
-
-abbrev pub KeepsMap : {F : Type 0} → Ghosts F → Type 0
-KeepsMap {F} ghosts = (old new : F) → IsTrue ghosts.tells → ghosts.kept old new → ghosts.map new ≡ ghosts.map old
 
 -- files that nobody has read are kept
 pub kept_self : {F : Type 0} (ghosts : Ghosts F) → KeepsItself ghosts → (files : F) → AreKept ghosts files files

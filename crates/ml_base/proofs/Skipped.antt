@@ -1,5 +1,5 @@
 -- Places of a kind that a walk over the files may skip.
-use Rattle.std.proofs.Common.{◌∙◌, ◌≤◌, ℕ, List, Result, Ok, Err, IfOk, arith}
+use Rattle.std.proofs.Common.{◌∙◌, ◌≤◌, ℕ, List, Result, Ok, Err, IfOk, false, arith}
 use Rattle.ml_base.specs.Absent.{NoneOf, NoPutOf}
 use Rattle.ml_base.specs.Dir.{Dir, with_puts}
 use Rattle.ml_base.specs.declared.puts.Put.{Put}

@@ -7,7 +7,7 @@ ghost use Rattle.ml_base.specs.Bytes.{lower};
 ghost use Rattle.ml_base.specs.Address.{address_check, address_of, local_of, host_of, IsAddress, IsFaultOf, key};
 ghost use Rattle.ml_base.specs.Address as spec;
 
-use crate::{Bytes, lowered, split_last};
+use crate::{Bytes, split_last};
 use std::alloc::{AllocError, Global};
 use std::marker::Model;
 use thiserror::Error;
@@ -260,13 +260,4 @@ fn add_lower(out: &mut Bytes, text: &[u8]) -> Result<(), AllocError>
         out.push(byte.to_ascii_lowercase())?;
     }
     Ok(())
-}
-
-/// The key of an address: all its letters in lower case.
-pub fn key_of(alloc: Global, who: &Address) -> Result<Bytes, AllocError>
-    ensures key { IfOk result (λ k. k ≡ key who.now) }
-    ensures low { IfOk result IsAddress }
-    ensures address { IsAddress who.now }
-{
-    lowered(alloc, who.bytes())
 }

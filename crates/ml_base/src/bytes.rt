@@ -1,8 +1,7 @@
 // Byte strings, which contracts see as lists. They keep the allocator that they were made with.
-ghost use Rattle.std.specs.Prelude.{◌≡◌, ◌==◌, ◌^◌, ◌<◌, ℕ, List, [], ◌∷◌, ◌++◌, length, take, unwrap_or, IfOk, OnOk, OnErr};
+ghost use Rattle.std.specs.Prelude.{◌≡◌, ◌==◌, ◌^◌, ◌<◌, ℕ, List, [], ◌∷◌, ◌++◌, length, take, IfOk, OnOk, OnErr};
 ghost use Rattle.std.specs.Fmt.{decimal};
 ghost use Rattle.std.specs.Option.{option_copied};
-ghost use Rattle.ml_base.specs.Bytes.{lower};
 
 use crate::write_number;
 use std::alloc::{AllocError, Global};
@@ -132,21 +131,4 @@ pub fn copied(alloc: Global, bytes: Option<&Bytes>) -> Result<Option<Bytes>, All
         Some(bytes) => Ok(Some(Bytes::from_slice(alloc, bytes.as_slice())?)),
         None => Ok(None),
     }
-}
-
-/// The bytes of a file, or no bytes if it is absent.
-pub fn text_of(file: &Option<Bytes>) -> &[u8]
-    ensures { result.now ≡ unwrap_or file.now [] }
-{
-    match file {
-        Some(text) => text.as_slice(),
-        None => &[],
-    }
-}
-
-/// A text with its letters in lower case.
-pub fn lowered(alloc: Global, text: &[u8]) -> Result<Bytes, AllocError>
-    ensures { IfOk result (λ low. low ≡ lower text.now) }
-{
-    Ok(Bytes::from_vec(text.to_ascii_lowercase(alloc)?))
 }

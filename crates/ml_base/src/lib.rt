@@ -24,10 +24,8 @@ mod row;
 mod row_cuts;
 mod splits;
 
-pub use address::{
-    Address, AddressError, AddressFault, is_canonical, is_host_byte, key_of, make_address,
-};
-pub use bytes::{Bytes, copied, lowered, text_of};
+pub use address::{Address, AddressError, AddressFault, is_canonical, is_host_byte, make_address};
+pub use bytes::{Bytes, copied};
 pub use fault_plan::FaultPlan;
 pub use files::{Files, FilesError};
 pub use hashes::{hash, hash_lower};
@@ -46,7 +44,7 @@ pub use own_addresses::is_own;
 pub use part_error::PartError;
 pub use paths::path;
 pub use pieces::{put_number, put_piece};
-pub use puts::{AddressList, Put, Txn, list_of_one, newest_place};
+pub use puts::{AddressList, Put, Txn, newest_place};
 pub use ranges::{
     LARGEST_READ, LAST_DRAWN, LAST_ITEM, LAST_MOMENT, LAST_POST_NUMBER, LONGEST_MESSAGE,
     LONGEST_PATH, LONGEST_POST, is_drawn, is_moment, is_post_number,

@@ -1,13 +1,11 @@
 // What is to be done to files: a put gives one file new bytes or removes it, and a Txn is a row of puts.
-ghost use Rattle.std.specs.Prelude.{◌≡◌, ◌<◌, ◌+◌, ◌++◌, ◌∷◌, [], true, false, IfOk, IfSome, IfNone, OnOk, OnErr, MatchOption, drop, length, slice_get};
-ghost use Rattle.ml_base.specs.Address.{key};
+ghost use Rattle.std.specs.Prelude.{◌≡◌, ◌<◌, ◌+◌, ◌++◌, ◌∷◌, [], true, false, IfSome, IfNone, OnOk, OnErr, MatchOption, drop, length, slice_get};
 ghost use Rattle.ml_base.specs.Dir.{Dir, with_puts, touches, same_name};
 ghost use Rattle.ml_base.specs.Laying.{laid_in, IsNewestAt, are_distinct};
-ghost use Rattle.ml_base.specs.Sorted.{byte_cmp, is_sorted};
 ghost use Rattle.ml_base.specs.declared.names.Name.{Name as NameOf};
 
 use crate::{Address, Bytes, Name, Row};
-use std::alloc::{AllocError, Global};
+use std::alloc::AllocError;
 
 /// The bytes of a file from now on. None removes it.
 #[derive(Drop)]
@@ -53,14 +51,4 @@ pub fn newest_place(puts: &[Put], name: Name) -> Option<usize>
         }
     }
     None
-}
-
-/// The list of one address.
-pub fn list_of_one(alloc: Global, who: &Address) -> Result<AddressList, AllocError>
-    ensures value { IfOk result (λ to. to ≡ who.now ∷ []) }
-    ensures sorted { IfOk result (λ to. is_sorted byte_cmp key to ≡ true) }
-{
-    let mut to = Row::new(alloc);
-    to.push(who.copy(alloc)?)?;
-    Ok(to)
 }
