@@ -69,9 +69,11 @@ async def one_reply(reader):
 
 def counted(text):
     """A sender of whom replies are counted."""
-    count = replies.Replies(20)
-    count.take(text)
-    count.give_back(text, 1)
+    counts = replies.Counts()
+    key = counts.key(text)
+    counts.add(key)
+    counts.many(key)
+    counts.take_back(key)
 
 
 def handed_on(letter, mail):
@@ -126,8 +128,7 @@ REACHED = {
     'requests.is_of_bounces': (requests.is_of_bounces, None),
     'envelope.addresses': (of_members, None),
     'envelope.bucket': (envelope.bucket, PATH),
-    'replies.is_answered': (replies.is_answered, None),
-    'replies.Replies': (counted, None),
+    'replies.Counts': (counted, None),
     'mails.Mail.key': (lambda text: mails.Mail(text, text, text, 0, None).key(), None),
     'program.netstrings': (of_netstrings, None),
     'program.answer_of': (lambda text: program.answer_of(b'1 0 ' + text.replace(b'\n', b'')), None),
