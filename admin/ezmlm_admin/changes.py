@@ -79,7 +79,8 @@ def look(folder: pathlib.Path, path: str, row: Row | None, seen: Scrubbed, copy:
     seen.files, seen.bytes = seen.files + 1, seen.bytes + size
     if row is not None and row.sum != digest and (how := unwritten(row, size, state.st_mtime_ns)):
         return changed(folder, path, row, how, seen, copy)
-    if abs(now - state.st_mtime) < FRESH and not sums.WRITTEN_ONCE.fullmatch(path):
+    had_sum = row is not None and (row.sum, row.time) == (digest, state.st_mtime_ns)
+    if abs(now - state.st_mtime) < FRESH and not had_sum and not sums.WRITTEN_ONCE.fullmatch(path):
         seen.fresh += 1
         return None
     return Row(digest, size, state.st_mtime_ns, int(now), path)

@@ -106,12 +106,10 @@ def faults(one: Seen, now: float) -> Iterator[tuple[int, str]]:
     """What is to be said of a list, each with the status that it gives."""
     if one.status:
         yield (UNKNOWN if one.is_held else CRITICAL), f'{one.status} {one.word}'
-    oldest = ('queue', one.oldest_queued, 'the oldest entry of the queue is'), ('held', one.oldest_held, 'the oldest held post is')
-    for name, moment, what in oldest:
+    for name, moment, what in (('queue', one.oldest_queued, 'entry of the queue'), ('held', one.oldest_held, 'held post')):
         if moment is not None and (status := above(now - moment, LIMITS[name])):
-            yield status, f'{what} {texts.age(now - moment)} old'
-    for is_bad, what in sums.faults(one.folder, now):
-        yield (CRITICAL if is_bad else WARNING), what
+            yield status, f'the oldest {what} is {texts.age(now - moment)} old'
+    yield from sums.faults(one.folder, now)
     if one.log_bytes > 1 and (status := above(one.log_age, LIMITS['log'])):
         yield status, f'the log has {one.log_bytes} bytes since {texts.age(one.log_age)}: a run was stopped, or hangs'
     for what, free, size in (('space', *one.space[:2]), ('inodes', *one.space[2:])):

@@ -116,19 +116,19 @@ def ended(folder: pathlib.Path) -> Ended | None:
     return Ended(int(found[1]), int(found[2]), int(found[3]))
 
 
-def faults(folder: pathlib.Path, now: float) -> Iterator[tuple[bool, str]]:
-    """What a monitor is told of the last run: whether it is bad, and a sentence. Of a list that was never looked at nothing is said."""
+def faults(folder: pathlib.Path, now: float) -> Iterator[tuple[int, str]]:
+    """What a monitor is told of the last run: 2 if it is critical or 1 for a warning, and a sentence. Of a list that was never looked at nothing is said."""
     try:
         last = ended(folder)
     except ValueError:
-        yield True, 'its sums are damaged: ezmlm-admin scrub takes them anew'
+        yield 2, 'its sums are damaged: ezmlm-admin scrub takes them anew'
         return
     except OSError:
         return
     if last is not None and last.changed:
-        yield True, f'{last.changed} of its files changed without a run: ezmlm-admin scrub names them'
+        yield 2, f'{last.changed} of its files changed without a run: ezmlm-admin scrub names them'
     if last is not None and now - last.ended > OVERDUE:
-        yield False, f'its files were last looked at {int(now - last.ended) // 86_400} days ago, by ezmlm-admin scrub'
+        yield 1, f'its files were last looked at {int(now - last.ended) // 86_400} days ago, by ezmlm-admin scrub'
 
 
 def is_whole(folder: pathlib.Path) -> bool:

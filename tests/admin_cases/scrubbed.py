@@ -147,8 +147,8 @@ def case_scrub_tells(world):
     world.admin('scrub', '--anew', 'cats')
     same(world.admin('scrub', 'cats').count('\n'), 1, 'after --anew')
     moment = os.stat(folder / 'sums').st_mtime
-    same([is_bad for is_bad, _ in sums.faults(folder, moment + 14 * DAY)], [], 'after 14 days')
-    same([is_bad for is_bad, _ in sums.faults(folder, moment + 16 * DAY)], [False], 'after 16 days')
+    same([status for status, _ in sums.faults(folder, moment + 14 * DAY)], [], 'after 14 days')
+    same([status for status, _ in sums.faults(folder, moment + 16 * DAY)], [1], 'after 16 days')
     for words in (['--repair', 'none', 'cats'], ['--sideways', 'cats'], [], ['--repair', 'cats', 'cats', 'dogs'], ['--repair', 'cats', '--anew', 'cats']):
         check(world.admin_run('scrub', *words).returncode in (64, 75), f'{words}')
 
