@@ -1,13 +1,13 @@
-"""What a monitor hears of the agent that runs: its status socket is asked, with a second's patience."""
+"""What a monitor hears of the agent that runs, whose status socket is asked with a second's patience, and of the disks of its lists."""
 
 import dataclasses
 import fcntl
 import json
 import socket
 import time
-from collections.abc import Iterable, Sequence
+from collections.abc import Iterable, Iterator, Sequence
 
-from . import settings
+from . import room, settings, wire
 
 OK, WARNING, CRITICAL, UNKNOWN = range(4)  # statuses of a plugin (Nagios plugin guidelines)
 WORST_LAST = OK, UNKNOWN, WARNING, CRITICAL
@@ -28,7 +28,24 @@ class Heard:
 
 
 def ask(chosen: settings.Settings) -> Heard:
-    """Asks the agent of these settings."""
+    """Asks the agent of these settings, and looks how much room its lists have."""
+    heard = heard_from_agent(chosen)
+    return dataclasses.replace(heard, faults=[*heard.faults, *of_disks(chosen)])
+
+
+def of_disks(chosen: settings.Settings) -> Iterator[Fault]:
+    """Which lists have less than twice the room below which the agent puts their mail off. A folder that can't be looked at is left out."""
+    try:
+        paths = [path for path in sorted(chosen.lists.iterdir()) if path.name != 'lost+found' and (path / 'config').exists()]
+    except OSError:
+        return
+    for path in paths:
+        if (why := room.warned(path, chosen)) is not None:
+            yield WARNING, wire.printable(path.name), why
+
+
+def heard_from_agent(chosen: settings.Settings) -> Heard:
+    """What the agent of these settings says."""
     try:
         return read(answer(chosen.status))
     except PermissionError as error:

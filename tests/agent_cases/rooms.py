@@ -3,10 +3,11 @@
 import os
 import sys
 
+from . import watched
 from .world import HOST, TOP, Client, check, post, same
 
 sys.path.insert(0, str(TOP / 'agent'))
-from ezmlm_agent import room, settings  # noqa: E402
+from ezmlm_agent import asking, room, settings  # noqa: E402
 
 # Bytes and inodes that are free and that have to be, how many times, and what is said.
 ROWS = [((80, 20, 80, 20), 1, None), ((79, 20, 80, 20), 1, '79 bytes are free on the disk, and mail is put off below 80'),
@@ -37,7 +38,8 @@ def case_room_rows(world):
 
 
 def case_room(world):
-    """Mail to a list whose disk is nearly full is answered 452 4.3.1, which is logged once, and what waits in the queue goes out."""
+    """Mail to a list whose disk is nearly full is answered 452 4.3.1, which is logged once, both commands of a monitor warn, and what waits in the
+    queue goes out."""
     world.list()
     world.rows['mta'] = world.place / 'nobody'
     world.begin()
@@ -53,6 +55,8 @@ def case_room(world):
     check(world.is_out(3), f'{len(world.sink.copies)} copies')
     check(world.tells('bytes are free on the disk'), 'the log does not say so')
     same(world.log().count('bytes are free on the disk, and mail is put off below'), 1, 'lines of the log')
+    watched.both_say(world, 'cats: ', asking.WARNING)
+    watched.both_say(world, ' bytes are free on the disk, and mail is put off below ', asking.WARNING)
     world.end()
     del world.rows['reserve']
     world.rows['reserve_inodes'] = 1 << 60
