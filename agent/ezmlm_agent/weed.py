@@ -149,8 +149,7 @@ def is_of_a_system(fields: dict[str, list[str]]) -> bool:
 
 def automatic_words(fields: dict[str, list[str]]) -> set[str]:
     """The keywords of the Auto-Submitted fields (RFC 3834 5), in lower case, without comments and parameters."""
-    words = (re.split(r'[;\s]', without_comments(value).strip().lower(), maxsplit=1)[0] for value in fields.get('auto-submitted', []))
-    return {word for word in words if word}
+    return {re.split(r'[;\s]', without_comments(value).strip().lower(), maxsplit=1)[0] for value in fields.get('auto-submitted', [])} - {''}
 
 
 def without_comments(value: str) -> str:
