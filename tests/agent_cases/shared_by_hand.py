@@ -2,6 +2,7 @@
 
 import functools
 import os
+import pathlib
 import re
 import shutil
 import signal
@@ -248,10 +249,11 @@ def case_shared_clock(world):
         same(one.post(1), '250 2.0.0 posted 1', 'a post')
         status, said = one.command('--check')
         check(status == 0 and re.search(r"this host's clock is 0\.\d s (before|after) the server's", said), said)
-        if shutil.which('faketime') is None:
+        library = next(pathlib.Path('/usr/lib').glob('*/faketime/libfaketime.so.1'), None)
+        if library is None:
             world.note = 'not tried with another clock, as there is no faketime'
             return
-        two.begin(['faketime', '-f', '+20d', *world.words])
+        two.begin(['env', f'LD_PRELOAD={library}', 'FAKETIME=+20d', *world.words])
         check(two.says('the clocks of this host and of the server differ by 1728'), two.log())
         begins(two.post(2), '451 ', 'a post to the host whose clock is wrong')
         status, said = two.command('--give', 'cats', given=b'A1:0,1:1,4:list,5:d@e.f,')
