@@ -45,7 +45,8 @@ FOLDER is a list's folder. Run it as the user that the list belongs to.
 {}
 
 LISTS are folders of lists, or folders that have such. --json says the same for programs. --program is the program, if it isn't `ezmlm` on PATH.
-LISTS may be the agent's SETTINGS: then all lists of it are watched. --agent names these for aside and again, if not /etc/ezmlm-agent.conf.
+LISTS may be the agent's SETTINGS: then all lists of it are watched. --agent names these for aside and again, and for lists that several hosts
+have, which are changed by their history, if not /etc/ezmlm-agent.conf.
 The status is 0; 64 or 65 for wrong words, 75 for no list or a damaged file, 77 for the wrong user, 100 for no, 111 for a list that another
 run holds and for a disk that fails; of watch 0 to 3. See ezmlm-admin(8).'''
 
@@ -58,12 +59,14 @@ def help_text() -> str:
 
 @dataclass(frozen=True)
 class Command:
-    """A command line: the word, the folders or the folder, what follows the word, whether JSON is asked for, and the program."""
+    """A command line: the word, the folders or the folder, what follows the word, whether JSON is asked for, the program, and
+    the agent's settings."""
     word: str
     folders: list[str]
     rest: list[str]
     is_json: bool
     program: str | None
+    settings: str | None = None
 
     def run(self) -> Said:
         """Does what is asked."""
@@ -71,12 +74,14 @@ class Command:
             if not self.folders:
                 raise Refused(USAGE, f'usage: ezmlm-admin {self.word} LISTS ..')
             return MONITORS[self.word][1](self.folders, program(self.program), lists.WAIT)
-        return WORDS[self.word][4](MailingList(pathlib.Path(self.folders[0]), program(self.program)), *self.rest)
+        chosen = MailingList(pathlib.Path(self.folders[0]), program(self.program))
+        chosen.settings = pathlib.Path(self.settings or chosen.settings)
+        return WORDS[self.word][4](chosen, *self.rest)
 
 
 def command(words: list[str]) -> Command | str:
     """The command that the words are, or a text that is asked for. Other words are Refused. --json and --help may stand anywhere."""
-    left, path = [word for word in words if word != '--json'], None
+    left, path, conf = [word for word in words if word != '--json'], None, None
     is_json = len(left) < len(words)
     if '--help' in left:
         return help_text()
@@ -89,7 +94,7 @@ def command(words: list[str]) -> Command | str:
             case '--program' if left:
                 path = left.pop(0)
             case '--agent' if left:
-                monitoring.AGENT = left.pop(0)
+                conf = monitoring.AGENT = left.pop(0)
             case word:
                 raise Refused(USAGE, f'{word} is none of its words; see ezmlm-admin --help')
     if left[1:2] and left[1] in MONITORS and left[0] not in MONITORS:
@@ -102,7 +107,7 @@ def command(words: list[str]) -> Command | str:
     more, least, most, _, _ = WORDS[left[1]]
     if not least <= len(left) - 2 <= most:
         raise Refused(USAGE, f'usage: ezmlm-admin FOLDER {left[1]} {more}'.rstrip())
-    return Command(left[1], left[:1], left[2:], is_json, path)
+    return Command(left[1], left[:1], left[2:], is_json, path, conf)
 
 
 def main(words: list[str]) -> int:

@@ -25,6 +25,7 @@ T = TypeVar('T')
 WAIT = 10   # seconds for which a list that another run holds is waited for
 RUNS = 3    # of the program that fail, a moment apart, although nobody holds the list, until that is believed
 MOMENT = 0.1
+AGENT = '/etc/ezmlm-agent.conf'
 USAGE, WORDS, MEMORY, NO_LIST, NO_PERMISSION, REFUSED, DISK = 64, 65, 71, 75, 77, 100, 111
 SETS = 'list', 'digest', 'allow', 'deny', 'mod'
 NAME = re.compile('[1-9][0-9]{0,15}', re.ASCII)
@@ -99,6 +100,7 @@ class MailingList:
 
     def __init__(self, folder: pathlib.Path, program: str) -> None:
         self.folder, self.wait = folder, float(WAIT)
+        self.settings = pathlib.Path(AGENT)  # of the agent, which say whether other hosts have the list too
         self.program = programs.Program(program, 1)
         try:
             owner = (folder / 'config').stat().st_uid

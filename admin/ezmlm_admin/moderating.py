@@ -5,10 +5,11 @@ from __future__ import annotations
 import hashlib
 import hmac
 import pathlib
+import time
 
 from ezmlm_agent import program as programs
 
-from . import texts
+from . import shared, texts
 from .lists import REFUSED, MailingList, Refused, Said, content
 from .waiting import one_held, ticket_of
 
@@ -40,7 +41,7 @@ def answer(chosen: MailingList, word: str, verdict: bytes) -> Said:
     letters = cookie(chosen.read(read_key), b'hold', b'mod', moment, b'%d' % ticket)
     recipient = b'%b-%b-%d.%b@%b' % (config.local, verdict, ticket, letters, config.host)
     mail = b'From: %b\nTo: %b\nSubject: %b\n\n' % (config.owner, recipient, verdict)
-    status, line = chosen.run('deliver', '0', config.owner.decode('ascii'), recipient.decode('ascii'), given=mail)
+    status, line = shared.deliver(chosen, int(time.time()), config.owner.decode('ascii'), recipient.decode('ascii'), mail)
     if status not in (0, REFUSED):
         raise Refused(status, f'{chosen.folder}: the program says: {texts.safe(line)}')
     words = line.split(' ', 2)[2]

@@ -7,7 +7,7 @@ import pathlib
 import shlex
 import tempfile
 
-from . import files, texts
+from . import files, shared, texts
 from .config import LETTERS, Configuration, configuration
 from .lists import NO_LIST, REFUSED, MailingList, Refused, Said, content
 from .wanted import Asked, asked, unnamed, words_of
@@ -55,6 +55,12 @@ def options(chosen: MailingList, *words: str) -> Said:
     status, before = chosen.check()
     if status:
         raise Refused(status, f'{chosen.folder}: the options of a list that isn\'t whole stay: check says: {before}')
+    if (path := shared.settings_of(chosen)) is not None:
+        with tempfile.TemporaryDirectory(prefix='ezmlm-admin.') as scratch:
+            old = chosen.configuration()
+            text, new = chosen.read(lambda folder: tried(folder, pathlib.Path(scratch), chosen, wanted))
+        shared.configure(chosen, path, text)
+        return changed(old, new, f'{before}; each host lays the options in before the next item')
     former, old, new = chosen.read(lambda folder: change(folder, chosen, wanted))
     status, after = chosen.check()
     if status == NO_LIST:  # It was tried before, so this can't be, unless somebody else wrote into the folder.
@@ -68,24 +74,30 @@ def change(folder: pathlib.Path, chosen: MailingList, wanted: Asked) -> tuple[by
     and both."""
     old_text, old = (folder / 'config').read_bytes(), content(folder, 'config', configuration)
     with tempfile.TemporaryDirectory(prefix='ezmlm-admin.') as scratch:
-        place = pathlib.Path(scratch)
-        made_text = made(place / 'made', chosen, old, wanted)
-        new = configuration(made_text)
-        if not wanted.anyway and (lost := unnamed(old, new, wanted)):
-            raise Refused(REFUSED, f'{", ".join(lost)} would be lost, as {"it isn" if len(lost) == 1 else "they aren"}\'t named: +LETTERS changes single '
-                                   'ones and leaves all others (+d sets d, +D clears it); --anyway does it')
-        moderators = content(folder, 'counts/mod', files.count)
-        if turned_on := [letter for letter in 'ms' if new.has(letter) and not old.has(letter)]:
-            if not moderators and not wanted.anyway:
-                raise Refused(REFUSED, f'-{turned_on[0]} asks the moderators, and the list has none: first ezmlm {folder} sub 0 mod ADDRESS '
-                                       '(or say --anyway)')
-        status, line = checked(place / 'tried', folder, made_text, chosen)
-        if status:
-            raise Refused(REFUSED, reason(old, new, line))
+        made_text, new = tried(folder, pathlib.Path(scratch), chosen, wanted)
     if made_text != old_text:
         write(folder / 'config.old', old_text)
         write(folder / 'config', made_text)
     return old_text, old, new
+
+
+def tried(folder: pathlib.Path, place: pathlib.Path, chosen: MailingList, wanted: Asked) -> tuple[bytes, Configuration]:
+    """The new configuration, if `check` takes it and nobody is shut out by it. `place` is an empty folder."""
+    old = content(folder, 'config', configuration)
+    made_text = made(place / 'made', chosen, old, wanted)
+    new = configuration(made_text)
+    if not wanted.anyway and (lost := unnamed(old, new, wanted)):
+        raise Refused(REFUSED, f'{", ".join(lost)} would be lost, as {"it isn" if len(lost) == 1 else "they aren"}\'t named: +LETTERS changes single '
+                               'ones and leaves all others (+d sets d, +D clears it); --anyway does it')
+    moderators = content(folder, 'counts/mod', files.count)
+    if turned_on := [letter for letter in 'ms' if new.has(letter) and not old.has(letter)]:
+        if not moderators and not wanted.anyway:
+            raise Refused(REFUSED, f'-{turned_on[0]} asks the moderators, and the list has none: first ezmlm {folder} sub 0 mod ADDRESS '
+                                   '(or say --anyway)')
+    status, line = checked(place / 'tried', folder, made_text, chosen)
+    if status:
+        raise Refused(REFUSED, reason(old, new, line))
+    return made_text, new
 
 
 def made(scratch: pathlib.Path, chosen: MailingList, old: Configuration, wanted: Asked) -> bytes:

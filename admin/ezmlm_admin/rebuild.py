@@ -8,7 +8,7 @@ import pathlib
 import shutil
 import time
 
-from . import anew, archive, texts
+from . import anew, archive, shared, texts
 from .archive import Written
 from .config import configuration
 from .lists import NO_LIST, MailingList, Refused, Said, content
@@ -22,6 +22,7 @@ def rebuild(chosen: MailingList, *other: str) -> Said:
     """Writes `num`, the indexes and the thread files anew from the posts; or, with a folder, makes the list anew there."""
     if other:
         return anew.make(chosen, pathlib.Path(other[0]))
+    shared.refuse(chosen, 'rebuild')
     chosen.settled(recover)
     status, line = chosen.check()
     if status == 0:

@@ -22,7 +22,7 @@ if TYPE_CHECKING:
 
 log = logging.getLogger('ezmlm-agent')
 LOOKS = 60  # seconds between two looks for lists
-ORDERS = 'give', 'configure', 'forget_host', 'status'  # what operators ask
+ORDERS = 'give', 'configure', 'forget_host', 'status', 'go_on_from', 'take_copy'  # what operators ask
 ENDING = 60  # seconds until what is in hand at the end is left as it is
 LAST = 90    # seconds after a signal at which the agent ends, whatever hangs: the unit has 120
 DESCRIPTORS = 65536
@@ -64,6 +64,8 @@ class Agent:
         for number in (signal.SIGTERM, signal.SIGINT):
             loop.add_signal_handler(number, self.ended.set)
         loop.add_signal_handler(signal.SIGHUP, self.hang_up)
+        if self.hosts:
+            self.hosts.end = self.ended
         if self.hosts and (why := await self.hosts.begin()):
             sys.exit(f'ezmlm-agent: {why}')
         await self.listen()
@@ -85,6 +87,8 @@ class Agent:
         self.listener.close()
         self.policy.stop()
         await self.stop()
+        if self.hosts and self.hosts.why:
+            sys.exit(f'ezmlm-agent: {self.hosts.why}')
 
     async def listen(self) -> None:
         """Listens where the settings say, and ends the agent if nobody can. A monitor that can't ask is no reason for that."""
@@ -199,6 +203,8 @@ def words_of(words: list[str]) -> argparse.Namespace:
     ways.add_argument('--give', nargs=2, metavar=('SETTINGS', 'LIST'), help='give a list that several hosts have the items of standard input')
     ways.add_argument('--configure', nargs=3, metavar=('SETTINGS', 'LIST', 'FILE'), help='give a list that several hosts have a configuration')
     ways.add_argument('--forget-host', nargs=2, metavar=('SETTINGS', 'NAME'), help='forget a host that is gone for good')
+    ways.add_argument('--go-on-from', nargs=2, metavar=('SETTINGS', 'LIST'), help='have a list\'s history go on from this host\'s copy')
+    ways.add_argument('--take-copy', nargs=3, metavar=('SETTINGS', 'LIST', 'FOLDER'), help='put a copy of another host in the place of this one\'s')
     ways.add_argument('--status', nargs='+', metavar=('SETTINGS', 'LIST'), help='tell how the lists stand, with the status of a monitor\'s plugin')
     parser.add_argument('--version', action='version', version=f'ezmlm-agent {VERSION}')
     parser.add_argument('settings', metavar='SETTINGS', nargs='?', help='a file of settings; ezmlm-agent(8) tells what is in it')
@@ -241,7 +247,7 @@ def ordered(chosen: settings.Settings, order: str, words: list[str]) -> int:
     if order == 'status' and not chosen.history:
         return asyncio.run(status.status(chosen, None, name, seen))
     try:
-        from . import giving, servers
+        from . import deciding, giving, servers
     except ModuleNotFoundError as error:
         print(f'ezmlm-agent: this wants the package python3-psycopg: {error}', file=sys.stderr)
         return settings.WRONG
@@ -253,6 +259,10 @@ def ordered(chosen: settings.Settings, order: str, words: list[str]) -> int:
                 return asyncio.run(giving.configure(chosen, words[0], words[1]))
             case 'status':
                 return asyncio.run(status.status(chosen, giving.opened(chosen), name, seen))
+            case 'go_on_from':
+                return asyncio.run(deciding.go_on_from(chosen, words[0]))
+            case 'take_copy':
+                return asyncio.run(deciding.take_copy(chosen, words[0], words[1]))
             case _:
                 return asyncio.run(giving.forget_host(chosen, words[0]))
     except giving.Refused as error:

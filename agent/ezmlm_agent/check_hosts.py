@@ -11,7 +11,6 @@ async def faults(chosen: settings.Settings, addresses: 'check.Addresses') -> lis
     wrong: list[str] = []
     try:
         those = servers.Servers(chosen.history, chosen.host, chosen.standby, chosen.takeover)
-        those.said = wrong.append
         for row in those.rows:
             host = str(row.get('hostaddr') or row.get('host') or '/')
             wrong += [] if host.startswith('/') else check.kept_away((host, int(row.get('port') or 5432)), 'history')
@@ -20,7 +19,8 @@ async def faults(chosen: settings.Settings, addresses: 'check.Addresses') -> lis
             print(f'history: {those.shown()} can be reached, and has no tables yet: the first agent makes them')
             return wrong
         known = await past.lists()
-        print(f'history: {those.shown()}, {len(known)} list{"s" * (len(known) != 1)}; {kept_by(chosen)}')
+        print(f'history: {those.shown()}, {len(known)} list{"s" * (len(known) != 1)}; {kept_by(chosen)}; this host\'s clock is {abs(those.ahead):.1f} '
+              f's {"before" if those.ahead >= 0 else "after"} the server\'s')
         for path, address in addresses.items():
             name = wire.printable(path.name)
             if name not in known:

@@ -25,6 +25,7 @@ class Seen(NamedTuple):
     back: int
     digest: bytes
     moment: int
+    hash: bytes = b''  # of the history up to the place
 
 
 @dataclasses.dataclass(frozen=True)
@@ -73,12 +74,12 @@ def whole(path: pathlib.Path, part: Part) -> bytes:
 
 def others(seen: Iterable[Seen], host: str, now: float) -> list[str]:
     """The hosts whose copies were another list at the last place at which this host's was looked at, unless more hosts agree with this one than
-    with any of those. If as many do nobody can tell which is right; further hosts have a while to look before that counts."""
+    with any of those. Only copies that were given the same items are compared. If as many do nobody can tell which is right; further hosts have a while to look before that counts."""
     rows = list(seen)
     own = max((row for row in rows if row.host == host), default=None)
     if own is None:
         return []
-    there = [row for row in rows if row.place == own.place and row.back == own.back]
+    there = [row for row in rows if (row.place, row.back, row.hash) == (own.place, own.back, own.hash)]
     many = collections.Counter(row.digest for row in there)
     most = max((count for digest, count in many.items() if digest != own.digest), default=0)
     is_tied = most == many[own.digest] and now - max(row.moment for row in there) >= WAITS

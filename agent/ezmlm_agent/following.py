@@ -6,7 +6,7 @@ import logging
 import pathlib
 import time
 
-from . import comparing, folder, handed, history, leading, mailing, mails, notes, program, puts, retrying, servers, states, trouble
+from . import handed, history, leading, mailing, mails, notes, own_copy, program, puts, retrying, servers, states, trouble
 
 log = logging.getLogger('ezmlm-agent')
 FOLLOWS = 0.5  # seconds for which items that another host put in, and hands on, wait for further ones
@@ -14,27 +14,21 @@ REPORTS, RESTS = 0.5, 2  # seconds for which reports, and where this host stands
 AGAIN = 0.25  # seconds until servers are asked again that couldn't be reached, while mail waits
 
 
-class SharedList(mailing.MailingList):
+class SharedList(own_copy.OwnCopy):
     """Where this host stands is read from the list before each run. Mail goes into the history, and is answered when this list answers it."""
 
     def __init__(self, path: pathlib.Path, shared: mails.Shared, past: history.History, lead: leading.Leading) -> None:
-        super().__init__(path, shared)
-        self.past, self.lead = past, lead
-        self.is_taken_up = False
-        self.place = self.next = 0  # the first item that the list hasn't answered, and the next that its history gets
+        super().__init__(path, shared, past, lead)
+        self.next = 0  # the number that the next item of its history gets
         self.is_asking = False  # whether the history is asked now
         self.soon: asyncio.TimerHandle | None = None  # when the history is asked though no mail comes
         self.waits: dict[int, list[tuple[mails.Mail, bytes]]] = {}  # mails that wait for the answers of items, with their keys
-        self.configured_at, self.config = -1, b''  # the configuration that holds here, and from which item on
-        self.key: bytes | None = None  # the hash of the keys after the last run, if it is known
         self.kept: handed.Handed | None = None  # in this term, or the last
         self.hands_from = 0  # the place from which on it hands on in this term
+        self.clock = 0  # the moment of the server's clock when the history was asked last
         self.reporting: set[int] = set()  # entries of which the history has the report since this term began
-        self.answers: list[tuple[int, str]] = []  # of operators' items, until they are noted
-        self.others: list[str] = []  # hosts whose copy is another list than this one
-        self.is_judging = True       # whether what the hosts saw may have changed
+        self.answers: list[tuple[int, bytes, str]] = []  # of operators' items, until they are noted
         self.looks_after: puts.Row | None = None  # a timed run after which this copy is looked at
-        self.looking: asyncio.Task[None] | None = None
 
     def start(self) -> None:
         super().start()
@@ -80,7 +74,12 @@ class SharedList(mailing.MailingList):
                 await self.proceed([])
         except servers.Unfit as error:
             self.is_taken_up = False
+            await self.note_trouble('refused', str(error))
             raise self.refused('it can\'t go by its history', str(error)) from error
+        except retrying.Refused as error:
+            if error.cause is not None:
+                await self.note_trouble('refused', str(error.cause))
+            raise
         except servers.Lost as error:
             raise self.refused('its history can\'t be reached', str(error)) from error
 
@@ -90,10 +89,13 @@ class SharedList(mailing.MailingList):
     async def proceed(self, batch: list[mails.Mail]) -> None:
         """Puts mails and what else there is into the history, and gives the list what the history has."""
         opened = await self.begin()
+        if not self.lead.is_known:
+            raise servers.Lost(f'the servers haven\'t yet let this host have its name, {self.past.host}')
         state = await self.reading(states.state_of)
         self.place = state.place
         if not self.is_taken_up:
             await self.take_up(opened, state)
+            self.noted.pop('refused', None)
         await self.judge()
         await self.look_at(state)
         await self.take_lead()
@@ -105,6 +107,7 @@ class SharedList(mailing.MailingList):
         if self.load.stale:
             await self.past.forget(self.name, self.load.stale)
         await self.note_answers()
+        await self.note_trouble('refused', '')
         if self.looks_after is not None and self.place == self.looks_after.number + 1:
             await self.look(self.place, self.looks_after.back or puts.WHOLE)
         self.lead.want(self.name, self.health.cause is None)
@@ -134,73 +137,6 @@ class SharedList(mailing.MailingList):
         if is_waited_for and self.waiting:
             await asyncio.sleep(AGAIN)
 
-    # This host's copy.
-
-    async def take_up(self, opened: notes.Notes, state: states.State) -> None:
-        """Takes the list up, with the mails and copies that this host alone knew if it has no history yet."""
-        address = await self.aside(folder.address, self.folder)
-        assert address
-        known = await opened.known()
-        answered = await self.reading(lambda path: folder.answered(path, [number for number, _ in known.values()]))
-        kept = {key: row for key, row in known.items() if row[0] in answered}
-        copies = [(entry, mark, b'\0'.join(recipients)) for (entry, mark), recipients in opened.handed.items()]
-        await self.past.take_up(self.name, address, state.place, state.floor, state.config, state.key, kept, copies)
-        seen = await self.past.seen(self.name)
-        if comparing.others(seen, self.past.host, time.time()):  # It may have been replaced by a good copy.
-            last = max(row for row in seen if row.host == self.past.host)
-            if last.place == state.place:
-                await self.look(last.place, last.back)
-            else:
-                await self.past.forget_looks(self.name)
-        self.is_taken_up = True
-
-    async def judge(self) -> None:
-        """Looks whether this copy is what the other hosts' are."""
-        if self.is_judging:
-            self.is_judging = False
-            self.others = comparing.others(await self.past.seen(self.name), self.past.host, time.time())
-        if self.others:
-            names = ' and '.join(self.others)
-            raise retrying.Refused('another list', trouble.Cause(
-                f'this copy differs from the one of {names}', self.folder, 'stop this agent and put a copy of the folder of a host that is right in '
-                'its place; where as many hosts have the one as the other see which files differ'))
-
-    async def look(self, place: int, back: int) -> None:
-        """Looks what this copy is at a place. What items change is read now, and full groups of posts while the next items come."""
-        if self.looking is not None and not self.looking.done():
-            return
-        part = await self.reading(functools.partial(comparing.changing, back=back))
-        self.looking = asyncio.create_task(self.look_further(place, back, part))
-
-    async def look_further(self, place: int, back: int, part: comparing.Part) -> None:
-        try:
-            digest = await self.threads.call('posts', comparing.whole, self.folder, part, seconds=None)
-            await self.past.look(self.name, place, back, digest)
-        except Exception as error:  # Whatever it is, the next look is soon.
-            log.error('%s: the copy can\'t be compared: %s: %s', self.name, type(error).__name__, error)
-
-    async def look_at(self, state: states.State) -> None:
-        """Looks whether the configuration and the keys are those that the history has made, and lays in a configuration that begins here."""
-        if self.key not in (None, state.key):
-            raise retrying.Refused('the key', trouble.Cause('its key was changed by hand on this host', self.folder / 'key', 'put the file of '
-                                                            'another host\'s copy in its place; a new key is given by ezmlm-agent --give'))
-        if state.config != self.config or self.configured_at < 0:
-            (at, config), *former = await self.past.configurations(self.name, self.place)
-            if state.config != config:
-                if at != self.place or state.config not in [text for _, text in former]:
-                    raise retrying.Refused('the configuration', await self.changed_by_hand(config))
-                await self.reading(lambda path: folder.replace(path / 'config', config))
-                log.info('%s: it has a new configuration', self.name)
-            self.configured_at, self.config = at, config
-        self.key = state.key
-
-    async def changed_by_hand(self, config: bytes) -> trouble.Cause:
-        """Keeps the configuration that the history has beside this host's notes, and says so."""
-        path = self.settings.state / f'{self.folder.name}.config'
-        await self.threads.call('notes', folder.replace, path, config, seconds=None)
-        return trouble.Cause('its configuration was changed by hand on this host', self.folder / 'config', f'put back the one that all hosts have, '
-                             f'{path}, and give the new one to all by ezmlm-agent --configure')
-
     async def take_lead(self) -> None:
         """Begins a term in which this host hands on, or ends one."""
         term = self.lead.term(self.name)
@@ -212,8 +148,8 @@ class SharedList(mailing.MailingList):
             return
         kept = handed.Handed(self.past, self.name, term, await self.past.handed(self.name), self.kept)
         # What another host handed on before may stand in the queue until this list has answered all that the history has by now.
-        self.hands_from, timed = await self.past.stands(self.name)
-        self.kept, self.is_due = kept, self.is_due or time.time() - timed >= mailing.HOUR
+        self.hands_from, since = await self.past.stands(self.name)
+        self.kept, self.is_due = kept, self.is_due or since >= mailing.HOUR
         log.info('%s: this host hands on', self.name)
 
     # Items.
@@ -226,9 +162,10 @@ class SharedList(mailing.MailingList):
         is_timed = self.is_due and is_leading and not self.stopping
         keys = [mail.key() for mail in batch]
         adds = puts.Adds([(key, functools.partial(spelled, mail)) for key, mail in zip(keys, batch)], sorted(sent),
-                         int(time.time()) - self.settings.keep_days * mailing.DAY if is_timed else None, left=left if is_leading else (),
+                         self.settings.keep_days * mailing.DAY if is_timed else None, left=left if is_leading else (),
                          size=sum(len(mail.message) for mail in batch))
         told = await self.asked(adds)
+        await self.keep(told)
         self.reporting |= sent
         self.queue.left -= left
         if left and self.kept is not None:
@@ -254,17 +191,21 @@ class SharedList(mailing.MailingList):
         """What the history says. What it tells of meanwhile may be what is put in now, or what other hosts put in after it."""
         self.next, self.is_asking = 0, True
         try:
-            told = await self.past.proceed(puts.Wish(self.name, self.place, self.key, adds, mails.MOST_MAILS, mails.MOST_BYTES))
+            is_first, self.is_new = self.is_new, False
+            assert self.hashes is not None
+            told = await self.past.proceed(puts.Wish(self.name, self.place, self.key, adds, mails.MOST_MAILS, mails.MOST_BYTES,
+                                                     self.hashes.at(self.place), is_first))
+            self.clock, is_first = told.clock, False
             self.next = max(self.next, told.next)
             return told
         finally:
-            self.is_asking = False
+            self.is_asking, self.is_new = False, self.is_new or is_first
 
     def repeats(self) -> list[program.Item]:
         """Items of the mails that wait for what the list has answered before: it tells its answer again."""
         again = [(number, *wait) for number in sorted(self.waits) if number < self.place for wait in self.waits[number]]
         self.waits = {number: waits for number, waits in self.waits.items() if number >= self.place}
-        return [program.Item(spelled(mail, number, int(time.time())), functools.partial(self.delivered, mail, key), mail.is_wanted)
+        return [program.Item(spelled(mail, number, self.clock), functools.partial(self.delivered, mail, key), mail.is_wanted)
                 for number, mail, key in again if mail.is_wanted()]
 
     def answered(self, row: puts.Row, answer: program.Answer) -> None:
@@ -272,7 +213,7 @@ class SharedList(mailing.MailingList):
         if answer.is_answer:
             self.place = max(self.place, row.number + 1)
             if row.is_given:
-                self.answers.append((row.number, f'{answer.status} {answer.words}'))
+                self.answers.append((row.number, row.hash, f'{answer.status} {answer.words}'))
             match row.text[:1]:
                 case b'S':
                     self.reported(int(program.netstrings(row.text[1:])[2]), answer)

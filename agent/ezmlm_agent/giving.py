@@ -11,7 +11,7 @@ import tempfile
 import time
 from typing import BinaryIO
 
-from . import check, comparing, folder, history, items, lines, mails, program, servers, settings, wire
+from . import check, comparing, folder, history, items, lines, mails, program, puts, servers, settings, wire
 
 PIECE = 1 << 16
 WAITS, SLOWEST = 0.02, 0.5  # seconds between two looks for answers, at first and at most
@@ -69,15 +69,27 @@ async def give(chosen: settings.Settings, name: str, stream: BinaryIO) -> int:
 
 async def give_some(past: history.History, name: str, batch: list[items.Given]) -> None:
     """Gives a list items, and prints its answers when each of them has one."""
-    numbers = await past.give(name, [(item.number, item.numbered) for item in batch])
+    given = await put_in(past, name, batch)
     begun, pause, is_said = time.monotonic(), WAITS, False
-    while len(answers := await past.answers(name, numbers)) < len(set(numbers)):
+    while len(answers := await past.answers(name, given)) < len({each.number for each in given}):
         if time.monotonic() > begun + SAID and not is_said:
             print(f'ezmlm-agent: the items are in the history of {name}, and no host has answered them yet', file=sys.stderr, flush=True)
             is_said = True
         await asyncio.sleep(pause)
         pause = min(2 * pause, SLOWEST)
-    print(''.join(f'{item.number} {answers[number]}\n' for item, number in zip(batch, numbers)), end='', flush=True)
+    print(''.join(f'{item.number} {answers[each.number]}\n' for item, each in zip(batch, given)), end='', flush=True)
+
+
+async def put_in(past: history.History, name: str, batch: list[items.Given]) -> list[puts.Given]:
+    """Puts items into a list's history. Hosts that are about to look at it are waited for."""
+    end = time.monotonic() + 2 * past.lines.servers.takeover
+    while True:
+        try:
+            return await past.give(name, [(item.number, item.numbered) for item in batch])
+        except servers.Late:
+            if time.monotonic() > end:
+                raise
+        await asyncio.sleep(SLOWEST)
 
 
 async def configure(chosen: settings.Settings, name: str, path: str) -> int:

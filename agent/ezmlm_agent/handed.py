@@ -2,13 +2,13 @@
 
 from collections.abc import Collection, Sequence
 
-from . import history, leading, rows, servers
+from . import columns, history, leading, servers
 
 
 class Handed:
     """As `notes.Copies` says, for one term in which this host hands on. What it handed on in a term before and couldn't keep it keeps now."""
 
-    def __init__(self, past: history.History, name: str, term: leading.Term, known: rows.Handed, before: 'Handed | None') -> None:
+    def __init__(self, past: history.History, name: str, term: leading.Term, known: columns.Handed, before: 'Handed | None') -> None:
         self.past, self.name, self.term = past, name, term
         self.unwritten: list[tuple[int, bytes, bytes]] = list(before.unwritten) if before else []
         self.copies: dict[tuple[int, bytes], set[bytes]] = {}

@@ -8,9 +8,19 @@ from typing import Any
 import psycopg
 
 from . import comparing, lines, notes, puts, rows, servers, status
-from .rows import make_each, one, row_of
-from .tables import TABLES, VERSION
+from .columns import Handed, make_each, one, row_of
+from .tables import FROM_1, TABLES, VERSION
 
+# The advisory locks of this database by their keys, and who has each.
+HOLDERS = '''SELECT (k.classid::bigint << 32) | k.objid::bigint, a.application_name FROM pg_locks k JOIN pg_stat_activity a USING (pid)
+    WHERE k.locktype = 'advisory' AND k.granted AND k.objsubid = 1 AND a.datname = current_database()'''
+# What the hosts saw, with moments as this host's clock has them, which has the one that is given.
+SEEN = '''SELECT list, place, host, back, digest, moment - extract(epoch FROM clock_timestamp())::bigint + %s, hash FROM ezmlm.digest'''
+# Where the hosts stand, also those that have trouble alone: place, next number, seconds for which the item at the place waits, the clock.
+HOSTS = '''SELECT h.list, h.host, h.place, l.next, extract(epoch FROM clock_timestamp())::bigint - i.first, h.ahead
+    FROM (SELECT list, host, place, ahead FROM ezmlm.host UNION SELECT list, host, NULL, NULL FROM ezmlm.trouble t
+            WHERE NOT EXISTS (SELECT FROM ezmlm.host WHERE list = t.list AND host = t.host)) AS h JOIN ezmlm.list l ON l.name = h.list
+        LEFT JOIN ezmlm.item i ON i.list = h.list AND i.number = h.place ORDER BY h.list, h.host'''
 NOTHING = 10**15  # an entry of a queue that was never there, of which a report does nothing
 
 
@@ -31,6 +41,10 @@ class History(rows.Rows):
         if not self.has_tables(cursor):
             cursor.connection.execute(TABLES)
             cursor.execute('INSERT INTO version VALUES (%s)', (VERSION,))
+        cursor.execute('SELECT number FROM ezmlm.version')
+        if one(cursor) == 1:
+            cursor.connection.execute(FROM_1)
+            cursor.execute('UPDATE ezmlm.version SET number = %s', (VERSION,))
         self.write_tables(cursor)
 
     def has_tables(self, cursor: lines.Cursor) -> bool:
@@ -71,19 +85,39 @@ class History(rows.Rows):
 
     # Operators.
 
-    async def give(self, name: str, given: Sequence[tuple[int, puts.Spell]]) -> list[int]:
-        """Puts an operator's items into the row, by his numbers. The answer is the numbers that they have there."""
-        def give(cursor: lines.Cursor) -> list[int]:
-            return self.put(cursor, name, puts.Adds(given=given))[0]
+    async def give(self, name: str, given: Sequence[tuple[int, puts.Spell]]) -> list[puts.Given]:
+        """Puts an operator's items into the row, by his numbers. It is Unfit while a host can't go by the history."""
+        def give(cursor: lines.Cursor) -> list[puts.Given]:
+            self.look_at_hosts(cursor, name)
+            numbers, _ = self.put(cursor, name, puts.Adds(given=given))
+            cursor.execute('SELECT number, hash FROM ezmlm.item WHERE list = %s AND number = ANY(%s)', (name, numbers))
+            hashes: dict[int, bytes] = {number: digest for number, digest in cursor.fetchall()}
+            return [puts.Given(number, hashes.get(number)) for number in numbers]
         return await self.lines.call(give)
 
-    async def answers(self, name: str, numbers: Sequence[int]) -> dict[int, str]:
-        """What the list answered to items of operators, as far as it did. One that was removed before its answer was noted is `stale`."""
+    def look_at_hosts(self, cursor: lines.Cursor, name: str) -> None:
+        """It is Unfit while a host can't go by a list's history, and Lost while one that is there hasn't looked at it since its server runs: the
+        history may be an old one."""
+        cursor.execute("SELECT host, why FROM ezmlm.trouble WHERE list = %s AND kind = 'refused' ORDER BY host", (name,))
+        for host, why in cursor.fetchall():
+            raise servers.Unfit(f'{host} can\'t go by the history: {why}')
+        cursor.execute('SELECT host FROM ezmlm.host WHERE list = %s AND server <> pg_postmaster_start_time()::text ORDER BY host', (name,))
+        late = [host for host, in cursor.fetchall()]
+        cursor.execute(HOLDERS)
+        holders = {key for key, _ in cursor.fetchall()}
+        for host in late:
+            if key_of(f'host {host}') in holders:
+                raise servers.Late(f'{host} hasn\'t looked at the history of {name} since the server began: try again')
+
+    async def answers(self, name: str, given: Sequence[puts.Given]) -> dict[int, str]:
+        """What the list answered to items of operators, as far as it did. One that was removed before its answer was noted is `stale`. It is Unfit
+        if others stand in the place of these items, as after the servers were set back."""
         def read(cursor: lines.Cursor) -> dict[int, str]:
-            cursor.execute("SELECT g.number, CASE WHEN g.answer IS NULL THEN '100 stale' ELSE g.answer END FROM ezmlm.given g JOIN ezmlm.list l ON "
-                           'l.name = g.list WHERE g.list = %s AND g.number = ANY(%s) AND (g.answer IS NOT NULL OR g.number < l.first)',
-                           (name, list(numbers)))
-            return {number: answer for number, answer in cursor.fetchall()}
+            cursor.execute('SELECT g.number, g.answer, g.number < l.first, i.hash FROM ezmlm.given g JOIN ezmlm.list l ON l.name = g.list '
+                           'LEFT JOIN ezmlm.item i ON i.list = g.list AND i.number = g.number WHERE g.list = %s AND g.number = ANY(%s)',
+                           (name, [each.number for each in given]))
+            found = {number: (answer, is_removed, digest) for number, answer, is_removed, digest in cursor.fetchall()}
+            return {each.number: said for each in given if (said := puts.said_of(name, each, found.get(each.number))) is not None}
         return await self.lines.call(read)
 
     async def lists(self) -> dict[str, tuple[notes.Address, range]]:
@@ -100,26 +134,27 @@ class History(rows.Rows):
             if not one(cursor):
                 return None
             cursor.execute('DELETE FROM ezmlm.digest WHERE host = %s', (host,))
+            cursor.execute('DELETE FROM ezmlm.trouble WHERE host = %s', (host,))
             cursor.execute('DELETE FROM ezmlm.host WHERE host = %s RETURNING list', (host,))
             return len(cursor.fetchall())
         return await self.lines.call(forget)
 
     # What copies are.
 
-    async def look(self, name: str, place: int, back: int, digest: bytes) -> None:
-        """Notes what this host's copy is at a place, and has all hosts compare."""
+    async def look(self, name: str, place: int, back: int, digest: bytes, up_to: bytes) -> None:
+        """Notes what this host's copy is at a place, up to which the history has this hash, and has all hosts compare."""
         def note(cursor: lines.Cursor) -> None:
-            cursor.execute('INSERT INTO ezmlm.digest VALUES (%s, %s, %s, %s, %s, %s) ON CONFLICT (list, place, host) DO UPDATE SET '
-                           'back = excluded.back, digest = excluded.digest, moment = excluded.moment',
-                           (name, place, self.host, back, digest, int(time.time())))
+            cursor.execute('INSERT INTO ezmlm.digest SELECT %s, %s, %s, %s, %s, extract(epoch FROM clock_timestamp())::bigint, %s ON CONFLICT '
+                           '(list, place, host) DO UPDATE SET back = excluded.back, digest = excluded.digest, moment = excluded.moment, '
+                           'hash = excluded.hash', (name, place, self.host, back, digest, up_to))
             cursor.execute('SELECT pg_notify(%s, %s)', (rows.CHANNEL, f'0 {name}'))
         await self.lines.call(note)
 
     async def seen(self, name: str) -> list[comparing.Seen]:
         """What the hosts saw of a list."""
         def read(cursor: lines.Cursor) -> list[comparing.Seen]:
-            cursor.execute('SELECT place, host, back, digest, moment FROM ezmlm.digest WHERE list = %s', (name,))
-            return [comparing.Seen(*row) for row in cursor.fetchall()]
+            cursor.execute(f'{SEEN} WHERE list = %s', (int(time.time()), name))
+            return [comparing.Seen(*row) for _, *row in cursor.fetchall()]
         return await self.lines.call(read)
 
     async def forget_looks(self, name: str) -> None:
@@ -135,16 +170,17 @@ class History(rows.Rows):
             return [(entry, mark, recipients) for entry, mark, recipients in cursor.fetchall()]
         return await self.lines.call(read)
 
-    async def hand(self, name: str, copies: rows.Handed) -> None:
+    async def hand(self, name: str, copies: Handed) -> None:
         """Notes copies that were handed on."""
         those = [(name, *row) for row in copies]
         await self.lines.join(rows.keep_all_handed, those, object(), 0)
 
     async def stands(self, name: str) -> tuple[int, int]:
-        """The number that the next item gets, and when the last timed run was put into the history."""
+        """The number that the next item gets, and how many seconds ago the last timed run was put into the history."""
         def read(cursor: lines.Cursor) -> tuple[int, int]:
-            following, timed = row_of(cursor.execute('SELECT next, timed FROM ezmlm.list WHERE name = %s', (name,)))
-            return following, timed
+            following, since = row_of(cursor.execute('SELECT next, extract(epoch FROM clock_timestamp())::bigint - timed FROM ezmlm.list '
+                                                     'WHERE name = %s', (name,)))
+            return following, since
         return await self.lines.call(read)
 
     async def standing(self) -> list[status.Standing]:
@@ -152,18 +188,24 @@ class History(rows.Rows):
         return await self.lines.call(self.stood)
 
     def stood(self, cursor: lines.Cursor) -> list[status.Standing]:
-        cursor.execute("SELECT (k.classid::bigint << 32) | k.objid::bigint, a.application_name FROM pg_locks k JOIN pg_stat_activity a USING (pid) "
-                       "WHERE k.locktype = 'advisory' AND k.granted AND k.objsubid = 1 AND a.datname = current_database()")
+        cursor.execute(HOLDERS)
         holders = {key: str(name).removeprefix('ezmlm-agent ') for key, name in cursor.fetchall()}
-        cursor.execute('SELECT list, place, host, back, digest, moment FROM ezmlm.digest')
+        cursor.execute(SEEN, (int(time.time()),))
         seen: dict[str, list[comparing.Seen]] = {}
         for name, *row in cursor.fetchall():
             seen.setdefault(name, []).append(comparing.Seen(*row))
-        cursor.execute('SELECT h.list, h.host, h.place, l.next, i.first FROM ezmlm.host h JOIN ezmlm.list l ON l.name = h.list '
-                       'LEFT JOIN ezmlm.item i ON i.list = h.list AND i.number = h.place ORDER BY h.list, h.host')
+        cursor.execute('SELECT list, host, kind, place, why FROM ezmlm.trouble')
+        trouble: dict[tuple[str, str], dict[str, str]] = {}
+        places: dict[tuple[str, str], int] = {}
+        for name, host, kind, place, why in cursor.fetchall():
+            trouble.setdefault((name, host), {})[kind] = why
+            places |= {(name, host): place} if kind == 'refused' else {}
+        cursor.execute(HOSTS)
         hosts: dict[str, list[status.Host]] = {}
-        for name, host, place, following, since in cursor.fetchall():
-            hosts.setdefault(name, []).append(status.host_of(host, place, following, since, seen.get(name, []), key_of(f'host {host}') in holders))
+        for name, host, place, following, since, ahead in cursor.fetchall():
+            at = places.get((name, host), place)
+            hosts.setdefault(name, []).append(status.host_of(host, following if at is None else at, following, since, seen.get(name, []),
+                                                             key_of(f'host {host}') in holders, trouble.get((name, host), {}), ahead or 0))
         cursor.execute('SELECT name FROM ezmlm.list ORDER BY name')
         return [status.Standing(name, None, holders.get(key_of(f'list {name}')), hosts.get(name, [])) for name, in cursor.fetchall()]
 
@@ -177,7 +219,7 @@ class History(rows.Rows):
 
     def confirm(self, connection: servers.Connection) -> None:
         """Waits until as many servers confirm what was written as confirm all else."""
-        connection.execute(servers.CONFIRMED)
+        self.lines.servers.confirm(connection)
 
     def release(self, connection: servers.Connection, name: str) -> None:
         connection.execute('SELECT pg_advisory_unlock(%s)', (key_of(name),))

@@ -1,15 +1,10 @@
 """What an agent has beside its lists if other hosts have the same."""
 
 import asyncio
-import logging
 import pathlib
-import time
 from collections.abc import Callable, Iterable
 
 from . import following, history, leading, lines, mailing, mails, servers, settings
-
-log = logging.getLogger('ezmlm-agent')
-HOUR = 3600
 
 
 class Hosts:
@@ -18,17 +13,16 @@ class Hosts:
     def __init__(self, chosen: settings.Settings, lists: Callable[[], Iterable[mailing.MailingList]]) -> None:
         """`lists` are those that are served. Wrong settings are a ValueError."""
         self.servers = servers.Servers(chosen.history, chosen.host, chosen.standby, chosen.takeover)
-        self.servers.said = self.say
-        self.said = float('-inf')  # when the last thing was said that is odd
         self.past = history.History(lines.Lines(self.servers))
         self.lists = lists
         self.lead = leading.Leading(self.past, self.told)
+        self.lead.doubled = self.doubled
+        self.why, self.end = '', asyncio.Event()  # why this agent has to end, and what is set then
 
-    def say(self, why: str) -> None:
-        """Says what is odd about the servers, once an hour. It comes from any thread."""
-        if time.monotonic() > self.said + HOUR:
-            self.said = time.monotonic()
-            log.warning('%s', why)
+    def doubled(self, why: str) -> None:
+        """Another agent has this host's name, as one that was begun while the servers were away."""
+        self.why = why
+        self.end.set()
 
     async def begin(self) -> str:
         """Begins when the servers were asked for the first time. The answer is why they can't keep the history, or nothing; if they aren't
@@ -44,14 +38,18 @@ class Hosts:
         return following.SharedList(folder, shared, self.past, self.lead)
 
     def told(self, name: str | None, number: int) -> None:
-        """A list's history grew, or this host begins or ends to hand on for it; with None, for all."""
+        """A list's history grew, or this host begins or ends to hand on for it; with None, connections were opened or lost, and each
+        list looks at its history anew."""
         for found in self.lists():
             if isinstance(found, following.SharedList) and name in (None, found.name):
+                found.is_new = found.is_new or name is None
                 found.hear(number)
 
     def look(self) -> None:
         """Has each list look at its history."""
-        self.told(None, 0)
+        for found in self.lists():
+            if isinstance(found, following.SharedList):
+                found.hear(0)
 
     async def stop(self) -> None:
         await asyncio.to_thread(self.lead.stop)

@@ -12,6 +12,7 @@ from . import history, servers
 
 log = logging.getLogger('ezmlm-agent')
 BEATS = 4     # times in `takeover` seconds that the server hears of a host
+PREPARING = 3600  # seconds for making tables, or for taking over those of an older version
 LONGEST = 1.0  # seconds between two of them
 
 
@@ -46,6 +47,8 @@ class Leading:
         self.until = 0.0
         self.pause = min(LONGEST, self.servers.takeover / BEATS)
         self.is_there = False    # whether the servers are
+        self.is_known = False    # whether this agent ever had its host's name among them: before that it gives no list anything
+        self.doubled: Callable[[str], object] = lambda why: None  # gets why this agent has to end: another one has its name
         self.first: asyncio.Future[None] = self.loop.create_future()  # what came of the first try
         self.heard: list[str] = []
         self.connection: servers.Connection | None = None
@@ -121,6 +124,9 @@ class Leading:
                     log.error('the history can\'t be reached, and mail waits: %s', words)
                 said = words
                 self.settle(error)
+                if isinstance(error, servers.Twice):
+                    with contextlib.suppress(RuntimeError):
+                        self.loop.call_soon_threadsafe(self.doubled, words)
             self.lose()
             self.is_ending.wait(self.pause)
 
@@ -133,15 +139,16 @@ class Leading:
         name, end = f'host {self.servers.host}', clock() + 3 * self.servers.takeover
         while not self.past.take(connection, [name]):
             if clock() > end:
-                raise servers.Unfit(f'another agent calls itself host = {self.servers.host}')
+                raise servers.Twice(f'another agent calls itself host = {self.servers.host}')
             self.is_ending.wait(self.pause)
             self.has(connection)
         connection.add_notice_handler(self.noticed)
         connection.add_notify_handler(lambda notify: self.heard.append(notify.payload))
         self.past.listen(connection)
         self.has(connection)
+        self.limit = clock() + PREPARING  # The hashes of an older history may have to be computed.
         self.past.prepare(connection)
-        self.is_there = True
+        self.is_there = self.is_known = True
         self.settle(None)
         self.tell(None)
 

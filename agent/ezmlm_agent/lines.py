@@ -131,7 +131,7 @@ class Batch:
         connection.add_notice_handler(self.noticed)
         try:
             self.make_all(connection)
-            connection.execute(servers.CONFIRMED)
+            self.lines.servers.confirm(connection)
         except psycopg.Error as error:
             connection.close()
             raise servers.Lost(servers.words_of(error)) from error

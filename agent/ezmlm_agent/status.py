@@ -7,7 +7,7 @@ import os
 import pathlib
 import pwd
 import time
-from collections.abc import Iterable, Iterator, Sequence
+from collections.abc import Iterable, Iterator, Mapping, Sequence
 from typing import TYPE_CHECKING, Any
 
 from . import asking, comparing, folder, settings, wire
@@ -31,6 +31,9 @@ class Host:
     compared: int | None = None
     others: Sequence[str] = ()
     is_there: bool = True
+    refused: str = ''  # why its copy can't go by the history
+    stuck: str = ''    # why it couldn't hand on
+    ahead: int = 0     # seconds by which its clock is ahead
 
 
 @dataclasses.dataclass(frozen=True)
@@ -61,9 +64,13 @@ def faults(one: Standing) -> Iterator[tuple[int, str]]:
     if one.hosts and one.leader is None:
         yield WARNING, 'no host hands on'
     for host in one.hosts:
+        if host.refused:
+            yield CRITICAL, f'{host.name} can\'t go by the history: {host.refused}'
+        if host.stuck:
+            yield CRITICAL if one.leader in (None, host.name) else WARNING, f'{host.name} couldn\'t hand on: {host.stuck}'
         if host.others:
             yield CRITICAL, f'the copy of {host.name} differs from the one of {" and ".join(host.others)}'
-        if host.behind and (status := above(host.late, LATE)):
+        if host.behind > 0 and (status := above(host.late, LATE)):
             yield status, f'{host.name} is {host.behind} items and {host.late} seconds behind'
         if not host.is_there:
             yield WARNING, f'{host.name} isn\'t there'
@@ -79,7 +86,7 @@ def told(one: Standing, now: float) -> Iterator[str]:
         f', the oldest for {one.queue.oldest} s' if one.queue.entries else '')
     yield f'{one.name}: {queue}' + (f', {one.leader or "nobody"} hands on' if one.hosts else '')
     for host in one.hosts:
-        behind = f'{host.behind} items and {host.late} s behind' if host.behind else 'has all'
+        behind = f'{host.behind} items and {host.late} s behind' if host.behind > 0 else f'{-host.behind} items ahead' if host.behind else 'has all'
         compared = 'never compared' if host.compared is None else f'compared {max(0, int(now - host.compared))} s ago'
         yield f'{one.name}: {host.name} at item {host.place}, {behind}, {compared}' + ('' if host.is_there else ', not there')
 
@@ -175,8 +182,10 @@ async def status(chosen: settings.Settings, past: 'history.History | None', name
     return report(every, wrong)
 
 
-def host_of(name: str, place: int, following: int, since: int | None, seen: Sequence[comparing.Seen], is_there: bool) -> Host:
-    """Where a host stands in a history whose next item has the number `following`, and whose item at its place came at the moment `since`."""
+def host_of(name: str, place: int, following: int, since: int | None, seen: Sequence[comparing.Seen], is_there: bool,
+            trouble: Mapping[str, str], ahead: int) -> Host:
+    """Where a host stands in a history whose next item has the number `following`, and whose item at its place waits since `since` seconds. `trouble`
+    has what is wrong with it by kind, and `ahead` the seconds by which its clock is."""
     own = max((row for row in seen if row.host == name), default=None)
-    return Host(name, place, following - place, max(0, int(time.time()) - since) if since is not None else 0,
-                own.moment if own else None, comparing.others(seen, name, time.time()), is_there)
+    return Host(name, place, following - place, max(0, since) if since is not None else 0, own.moment if own else None,
+                comparing.others(seen, name, time.time()), is_there, trouble.get('refused', ''), trouble.get('stuck', ''), ahead)

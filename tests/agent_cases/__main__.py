@@ -11,8 +11,9 @@ import traceback
 
 import compiled
 
-from . import (backscatter, beside, checking, counting, given, growing, histories, hosts, killed, looks, mail_in, mail_out, numbers, receivers,
-               records, rooms, servers, set_up, shared, shared_by_hand, signatures, steady, together, trouble, watched, weeding)
+from . import (backscatter, beside, by_admin, checking, counting, given, growing, histories, hosts, killed, looks, mail_in, mail_out, numbers,
+               receivers, records, rooms, servers, set_back, set_up, shared, shared_by_hand, signatures, steady, together, trouble, watched,
+               weeding)
 from .world import IS_UNPROVED, TOP, Skipped, World, Wrong
 
 AT_ONCE = 4
@@ -29,8 +30,8 @@ OF_HOSTS = 'shared', 'shared_takes_over'
 def cases():
     """The cases by their names, the longest first."""
     found = {f'killed{part}': functools.partial(killed.case_killed, part=part) for part in range(killed.PARTS)}
-    for module in (growing, shared, shared_by_hand, histories, together, given, mail_out, beside, trouble, watched, steady, weeding, backscatter,
-                   counting, hosts, checking, mail_in, numbers, set_up, receivers, records, looks, signatures, rooms):
+    for module in (growing, shared, shared_by_hand, set_back, by_admin, histories, together, given, mail_out, beside, trouble, watched, steady, weeding,
+                   backscatter, counting, hosts, checking, mail_in, numbers, set_up, receivers, records, looks, signatures, rooms):
         found.update({name.removeprefix('case_'): call for name, call in vars(module).items() if name.startswith('case_')})
     return found
 

@@ -37,15 +37,30 @@ def histories(world, hosts=('one', 'two'), many=1, standby='none', takeover=5):
                 each.lines.close()
 
 
-async def taken_up(past, place=512, floor=1, address=ADDRESS, config=b'config', key=b'key', known=(), handed=()):
-    await past.take_up('cats', address, place, floor, config, key, dict(known), handed)
+async def taken_up(past, place=512, floor=1, address=ADDRESS, config=b'config', key=b'key', known=(), handed=(), kept=None):
+    from ezmlm_agent import taking
+    return await past.take_up(taking.Copy('cats', address, place, kept, floor, config, key), dict(known), handed)
 
 
-async def told(past, place, mails=(), sent=(), before=None, given=(), left=(), most=128, size=1 << 20):
+def up_to(those, place):
+    """The hash of the history before a place, as the servers have it."""
+    rows = those.sql('SELECT hash FROM ezmlm.item WHERE number = %s', place - 1) or those.sql('SELECT base FROM ezmlm.list')
+    return bytes(rows[0][0])
+
+
+def hash_up_to(cursor, place):
+    cursor.execute('SELECT coalesce((SELECT hash FROM ezmlm.item WHERE list = %s AND number = %s), '
+                   '(SELECT base FROM ezmlm.list WHERE name = %s))', ('cats', place - 1, 'cats'))
+    return cursor.fetchone()[0]
+
+
+async def told(past, place, mails=(), sent=(), keep=None, given=(), left=(), most=128, size=1 << 20, kept=None):
     """What a history says: the numbers, the next one, and the items by their texts."""
     from ezmlm_agent import puts
-    adds = puts.Adds([(key.encode(), spell(key)) for key in mails], sent, before, [(number, spell(word)) for number, word in given], left)
-    said = await past.proceed(puts.Wish('cats', place, None, adds, most, size))
+    if kept is None:
+        kept = bytes(await past.lines.call(hash_up_to, place))
+    adds = puts.Adds([(key.encode(), spell(key)) for key in mails], sent, keep, [(number, spell(word)) for number, word in given], left)
+    said = await past.proceed(puts.Wish('cats', place, None, adds, most, size, kept))
     return said.numbers, said.next, [row.text.split(b':')[0].decode() for row in said.rows]
 
 
@@ -101,10 +116,9 @@ def case_history_forgets(world):
             await told(one, 512, ['a', 'b', 'c'])
             those.sql("UPDATE ezmlm.item SET first = first - 100 WHERE number < 514")
             those.sql("UPDATE ezmlm.mail SET first = first - 100 WHERE number < 514")
-            now = int(time.time())
             await told(one, 515)
             await told(two, 513)
-            numbers, following, _ = await told(one, 515, before=now - 50)
+            numbers, following, _ = await told(one, 515, keep=50)
             same((numbers, following), ([], 517), 'a timed run and the floor')
             texts = those.sql('SELECT number, text FROM ezmlm.item ORDER BY number')
             same([number for number, _ in texts], [513, 514, 515, 516], 'items that are left')
@@ -112,7 +126,7 @@ def case_history_forgets(world):
             check(bytes(texts[3][1]).endswith(b',3:514,'), texts)
             same(await told(two, 517, ['a', 'c']), ([517, 514], 518, ['a 517']), 'one that was forgotten, and one that was not')
             await told(two, 517)
-            await told(one, 517, before=now - 50)
+            await told(one, 517, keep=50)
             same(those.sql('SELECT min(number) FROM ezmlm.item'), [(514,)], 'the first item')
         asyncio.run(ask())
 
@@ -189,18 +203,18 @@ def case_history_of_another(world):
                     check(False, f'{words} was taken')
                 except connections.Unfit as why:
                     check(wanted in str(why), f'{words}: {why}')
-            await taken_up(two, 601)
-            await taken_up(two, 601)
+            await taken_up(two, 601, kept=up_to(those, 601))
+            await taken_up(two, 601, kept=up_to(those, 601))
             try:
-                await taken_up(two, 601, key=b'other')
+                await taken_up(two, 601, key=b'other', kept=up_to(those, 601))
                 check(False, 'another key was taken')
             except connections.Unfit as why:
                 check('was changed by hand' in str(why), why)
-            await taken_up(two, 602, key=b'other')
+            await taken_up(two, 602, key=b'other', kept=up_to(those, 602))
             those.sql('UPDATE ezmlm.list SET next = 601')
             for mails in (), ('c', 'd', 'e'):
                 try:
-                    await told(two, 602, mails)
+                    await told(two, 602, mails, kept=b'x')
                     check(False, 'a history that lost items is taken')
                 except connections.Unfit as why:
                     check('has answered item 601, and its history goes to item 600' in str(why), why)

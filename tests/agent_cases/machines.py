@@ -92,9 +92,9 @@ def machines(world, many=3, kept=1, standby='none', names=NAMES):
 
 
 def files(folder):
-    """A list's files except its lock and its log."""
+    """A list's files except its lock, its log and the agent's hashes."""
     return {str(path.relative_to(folder)): path.read_bytes() for path in sorted(folder.rglob('*'))
-            if path.is_file() and path.relative_to(folder).parts[0] not in ('lock', 'log')}
+            if path.is_file() and path.relative_to(folder).parts[0] not in ('lock', 'log', 'history')}
 
 
 def are_the_same(hosts, name='cats'):

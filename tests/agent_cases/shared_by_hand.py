@@ -2,7 +2,10 @@
 
 import functools
 import os
+import pathlib
+import re
 import shutil
+import signal
 import subprocess
 import sys
 import time
@@ -196,8 +199,8 @@ def case_shared_refused(world):
         status, said = host.command('--check')
         check(status == 0 and 'on one server alone' in said and 'cats: the history has the ' in said, said)
         host.end()
-        refused('the history has version 2, and this agent knows version 1: install the newer agent', ['UPDATE ezmlm.version SET number = 2'],
-                ['UPDATE ezmlm.version SET number = 1'])
+        refused('the history has version 3, and this agent knows version 2: install the newer agent', ['UPDATE ezmlm.version SET number = 3'],
+                ['UPDATE ezmlm.version SET number = 2'])
         refused('permission denied', ['REVOKE ALL ON ezmlm.version FROM ezmlm'], ['GRANT ALL ON ezmlm.version TO ezmlm'])
         refused('its history is the one of the list dogs@ex.org', ["UPDATE ezmlm.list SET local = 'dogs'"], ["UPDATE ezmlm.list SET local = 'cats'"],
                 starts=None)
@@ -237,17 +240,25 @@ def case_shared_address(world):
 
 
 def case_shared_clock(world):
-    """Clocks that differ by more than a minute are told, and nothing more."""
-    if servers.lacking():
-        return
-    from ezmlm_agent import servers as connections
-    with servers.Servers(many=1) as those:
-        told = []
-        found = connections.Servers(those.string(), 'one', 'none', 5)
-        found.said = told.append
-        found.connect().close()
-        same(told, [], 'with one clock')
-        kept, connections.SKEW = connections.SKEW, -1
-        found.connect().close()
-        connections.SKEW = kept
-        check(len(told) == 1 and told[0].startswith('the clocks of this host and of the server differ by 0 seconds'), told)
+    """A host whose clock differs from the server's by more than a minute gives nothing, and says by how much."""
+    with machines(world, 2) as (those, hosts):
+        if hosts is None:
+            return
+        one, two = hosts
+        one.begin()
+        same(one.post(1), '250 2.0.0 posted 1', 'a post')
+        status, said = one.command('--check')
+        check(status == 0 and re.search(r"this host's clock is 0\.\d s (before|after) the server's", said), said)
+        library = next(pathlib.Path('/usr/lib').glob('*/faketime/libfaketime.so.1'), None)
+        if library is None:
+            world.note = 'not tried with another clock, as there is no faketime'
+            return
+        two.begin(['env', f'LD_PRELOAD={library}', 'FAKETIME=+20d', *world.words])
+        check(two.says('the clocks of this host and of the server differ by 1728'), two.log())
+        begins(two.post(2), '451 ', 'a post to the host whose clock is wrong')
+        status, said = two.command('--give', 'cats', given=b'A1:0,1:1,4:list,5:d@e.f,')
+        same(status, 0, said)
+        same(one.post(3), '250 2.0.0 posted 2', 'a post')
+        check('this host hands on' not in two.log(), 'the host whose clock is wrong hands on')
+        same(those.sql('SELECT max(first) < extract(epoch FROM now()) + 60 FROM ezmlm.item'), [(True,)], 'moments of items')
+        two.end(signal.SIGKILL)

@@ -11,8 +11,11 @@ NAMES = [f'list "{n}\\' for n in range(6)]  # with each byte that an array of na
 
 
 async def taken_up(past, place=512):
+    from ezmlm_agent import taking
     for name in NAMES:
-        await past.take_up(name, (name.encode(), b'ex.org'), place, 1, b'config', b'key', {}, [])
+        await past.take_up(taking.Copy(name, (name.encode(), b'ex.org'), place, None, 1, b'config', b'key'), {}, [])
+    # The copies keep no hashes here, as those of before hashes were kept.
+    await past.lines.call(lambda cursor: cursor.execute('UPDATE ezmlm.list SET unhashed = 10000'))
 
 
 def told(past, name, place, mails=(), sent=(), left=(), size=1 << 20, text=spell):
@@ -91,7 +94,7 @@ def case_history_together_fails(world):
             those.sql('UPDATE ezmlm.list SET next = 510 WHERE name = %s', NAMES[2])
             those.sql('UPDATE ezmlm.list SET first = 513, next = 513 WHERE name = %s', NAMES[3])
             # A number that the table has already, as of servers that went wrong.
-            those.sql("INSERT INTO ezmlm.item VALUES (%s, 513, 1, NULL, 'x')", NAMES[4])
+            those.sql("INSERT INTO ezmlm.item VALUES (%s, 513, 1, NULL, 'x', 'x')", NAMES[4])
             for words, wanted in ([b'a'], ([512], 513)), ([b'b'], ([513], 514)):
                 first = told(one, 'none', 512, words)
                 found = await gathered(first, *(told(one, name, 512, words) for name in NAMES))
@@ -134,6 +137,6 @@ def case_history_together_held(world):
             over.set()
             same([said.numbers for said in await asyncio.gather(*calls[1:6])], 5 * [[512]], 'numbers of the others')
             given, *held = await asyncio.gather(calls[0], *calls[6:])
-            same(sorted(given + held[1].numbers) + held[0].numbers, [512, 513, 512], 'numbers of those that were held')
+            same(sorted([each.number for each in given] + held[1].numbers) + held[0].numbers, [512, 513, 512], 'numbers of those that were held')
             await asyncio.to_thread(thread.join)
         asyncio.run(ask())
