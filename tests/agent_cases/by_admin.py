@@ -19,8 +19,6 @@ def admin(host, *words, conf=True):
 def case_shared_by_admin(world):
     """accept, reject and options of ezmlm-admin change each copy, rebuild is refused, and so is all of it without the agent's settings."""
     with machines(world, 2) as (those, hosts):
-        if hosts is None:
-            return
         one, two = hosts
         for each in hosts:
             each.begin()
