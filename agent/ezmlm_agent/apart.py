@@ -22,7 +22,7 @@ class Apart:
         self.found: dict[int, parked.Parked] = {}
         self.stamp: parked.Stamp | str = 'unread'
         self.times: dict[int, int] = {}  # how often the transfer agent hung up on an entry
-        self.tells_at = 0.0  # when the owner is told, by the monotonic clock
+        self.tells_at = 0.0  # when the owner gets a mail, by the monotonic clock
 
     async def refresh(self, stamp: parked.Stamp) -> None:
         """Reads what is set aside if that may have changed, as when an entry is given again."""

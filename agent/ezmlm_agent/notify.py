@@ -1,4 +1,4 @@
-"""What systemd is told of the agent: sd_notify(3), over its socket, with the watchdog of sd_watchdog_enabled(3)."""
+"""What the agent says to systemd: sd_notify(3), over its socket, with the watchdog of sd_watchdog_enabled(3)."""
 
 import asyncio
 import contextlib

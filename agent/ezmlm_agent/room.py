@@ -43,7 +43,7 @@ def free(path: pathlib.Path, chosen: settings.Settings) -> Free:
 
 
 def warned(path: pathlib.Path, chosen: settings.Settings) -> str | None:
-    """What a monitor is warned of: there is less than twice what has to be free. A disk that can't be asked is told of elsewhere."""
+    """What a monitor is warned of: there is less than twice what has to be free. What watches the lists says so of a disk that can't be asked."""
     try:
         return free(path, chosen).lacks(2)
     except OSError:

@@ -1,4 +1,4 @@
-"""Tasks that go on as long as the agent does. One that ends by an error is told at once, and begun anew after a pause that grows."""
+"""Tasks that go on as long as the agent does. One that ends by an error is logged at once, and begun anew after a pause that grows."""
 
 import asyncio
 import logging
