@@ -3,10 +3,12 @@
 from __future__ import annotations
 
 import contextlib
+import filecmp
 import os
 import pathlib
 import re
 import subprocess
+from collections.abc import Iterable
 
 from . import message
 
@@ -14,7 +16,6 @@ NEW = '.ezmlm-site.new'
 SAFE_NAME = re.compile('[1-9][0-9]{0,2}-[A-Za-z0-9_-][A-Za-z0-9._-]{0,79}', re.ASCII)
 POST = re.compile(r'([1-9][0-9]{0,7})\.(html|eml)', re.ASCII)
 MONTH = re.compile(r'([0-9]{4}-[0-9]{2})(?:-([1-9][0-9]{0,6}))?\.html', re.ASCII)
-THREAD = re.compile(r'([1-9][0-9]{0,7})(?:-([1-9][0-9]{0,6}))?\.html', re.ASCII)
 FOLDER = re.compile('[1-9][0-9]{0,7}', re.ASCII)
 
 
@@ -39,6 +40,18 @@ class Web:
             pass
         with open(self.new, 'wb') as file:
             file.write(content)
+        os.replace(self.new, path)
+        return True
+
+    def put_pieces(self, name: str, pieces: Iterable[bytes]) -> bool:
+        """The same of a file whose bytes come in pieces, of which none stays in memory."""
+        path = os.path.join(self.root, name)
+        with open(self.new, 'wb') as file:
+            for piece in pieces:
+                file.write(piece)
+        if os.path.exists(path) and filecmp.cmp(self.new, path, shallow=False):
+            self.clear()
+            return False
         os.replace(self.new, path)
         return True
 

@@ -7,6 +7,7 @@ list of those to write after it is on the disk. What is made anew is collected i
 from __future__ import annotations
 
 import contextlib
+import dataclasses
 import fcntl
 import hashlib
 import importlib.metadata
@@ -18,7 +19,7 @@ import sys
 import time
 from collections.abc import Iterator
 
-from . import archive, changes, files, message, pages, settings, words
+from . import archive, changes, conversations, files, html_text, message, naming, pages, settings, words
 from .store import Page, Post, Store
 
 BATCH = 4000  # pages that are written between two syncs: on a busy disk a sync takes longer than they do
@@ -139,31 +140,45 @@ class Maker:
         if self.site.first == 1 and {month: posts for month, posts in store.rows('SELECT month, posts FROM month')} != listing.months:
             raise archive.Damaged('the index has other months than `pages list` answers')
 
-    def add(self, store: Store, n: int, thread: int, entry: archive.Entry) -> None:
+    def add(self, store: Store, n: int, topic: int, entry: archive.Entry) -> None:
         """Takes one post in, and marks the pages that change by it."""
         moment = time.gmtime(entry.moment)
-        post = Post(n, thread, 0, entry.moment, f'{moment.tm_year:04}-{moment.tm_mon:02}', n in self.site.left_out)
-        store.add(thread, self.filled(post, entry))
+        post = Post(n, 0, 0, entry.moment, f'{moment.tm_year:04}-{moment.tm_mon:02}', n in self.site.left_out, topic=topic)
+        moving = conversations.Moving(lambda each: store.mark(changes.changed_by(store, each)), lambda thread: store.mark(changes.named_by(store, thread)))
+        filled, naming = self.filled(post, entry)
+        conversations.take_in(store, filled, naming, moving)
         store.mark(changes.changed_by(store, n))
+        if self.site.left_out:
+            store.mark(changes.named_anew_by(store, n))
 
-    def filled(self, post: Post, entry: archive.Entry) -> Post:
-        """A post with what its bytes say, and its files written; one that is left out has neither."""
+    def filled(self, post: Post, entry: archive.Entry) -> tuple[Post, naming.Naming]:
+        """A post with what its bytes say, and its files written; one that is left out has neither. And what it is called and answers."""
+        raw = self.archive.post(post.n, entry.size)
         if post.is_out:
             self.web.remove(f'{post.n}.eml')
             self.web.put_attachments(post.n, {})
-            return post
-        raw = self.archive.post(post.n, entry.size)
+            return post, message.naming_of(raw)
         shown = message.read(raw)
         names = files.safe_names(shown.attachments)
         self.web.put_attachments(post.n, {name: attachment.content for name, attachment in zip(names, shown.attachments)})
         if self.site.gives_source:
             self.web.put(f'{post.n}.eml', raw)
         cut = self.shorten
-        message_id = '' if self.site.addresses == 'hidden' else shown.message_id  # Many have the writer's host in them.
-        return Post(post.n, post.thread, post.place, post.moment, post.month, False, cut(shown.author or words.one_line(entry.sender.decode('latin-1'), 200)),
-                    cut(shown.subject), cut(shown.text), message_id, shown.is_source, tuple(shown.notes),
-                    tuple((name, cut(value)) for name, value in shown.fields),
-                    tuple((name, cut(a.name), a.kind, len(a.content)) for name, a in zip(names, shown.attachments)))
+        message_id = '' if self.site.addresses == 'hidden' else words.clean(shown.naming.message_id)  # Many have the writer's host in them.
+        sections = [self.section(section) for section in (*shown.body, *shown.below)]
+        return dataclasses.replace(
+            post, author=cut(shown.author or words.one_line(entry.sender.decode('latin-1'), 200)), subject=cut(shown.subject),
+            text='\n\n'.join(text for text, *_ in sections), message_id=message_id, is_source=shown.is_source,
+            notes=tuple((note[0], *map(cut, note[1:])) for note in shown.notes), fields=tuple((name, cut(value)) for name, value in shown.fields),
+            files=tuple((name, cut(a.name), a.kind, len(a.content)) for name, a in zip(names, shown.attachments)),
+            sections=tuple((kind, title, len(text), tokens) for text, kind, title, tokens in sections)), shown.naming
+
+    def section(self, section: message.Section) -> tuple[str, str, str, tuple[html_text.Token, ...]]:
+        """A text of a mail with addresses as the settings say: the text, its kind, its title and its tokens."""
+        if not section.tokens:
+            return self.shorten(section.text), section.kind, self.shorten(section.title), ()
+        tokens = html_text.shortened(list(section.tokens), self.shorten)
+        return html_text.text_of(tokens), section.kind, self.shorten(section.title), tuple(tokens)
 
     def leave_out(self, store: Store) -> None:
         """Takes out the posts that the settings leave out since, and back in those that they no longer do."""
@@ -174,9 +189,9 @@ class Maker:
             entry = dict(self.archive.group(n // archive.GROUP)).get(n)
             if post is None or entry is None:
                 raise archive.Damaged(f'the index has no post {n}')
-            bare = Post(n, post.thread, post.place, post.moment, post.month, not post.is_out)
+            bare = Post(n, post.thread, post.place, post.moment, post.month, not post.is_out, topic=post.topic, parent=post.parent, begins=post.begins)
             with store.change():
-                store.put(self.filled(bare, entry))
+                store.put(self.filled(bare, entry)[0])
                 store.mark(changes.changed_by(store, n))
                 store.mark(changes.named_by(store, post.thread))
 
@@ -188,11 +203,11 @@ class Maker:
         while marked := store.marked(BATCH):
             before = count
             for page in marked:
-                name, content = made.made(page)
-                if content is None:
-                    self.web.remove(name)
-                else:
-                    count += self.web.put(name, content)
+                for name, content in made.made(page):
+                    if content is None:
+                        self.web.remove(name)
+                    else:
+                        count += self.web.put(name, content) if isinstance(content, bytes) else self.web.put_pieces(name, content)
             if count > before:
                 files.settle(self.site.web)
             store.written(marked)
@@ -214,7 +229,7 @@ def basis_of(site: settings.Site, local: str, host: str) -> str:
     code = pathlib.Path(__file__).parent
     read = sorted([*code.glob('*.py'), *(code / 'templates').iterdir(), *(site.templates.iterdir() if site.templates else ())])
     kept = [site.title, site.description, site.url, site.language, site.timezone, site.addresses, site.noindex, site.search, site.gives_source, site.first]
-    libraries = [importlib.metadata.version(name) for name in ('jinja2', 'html2text')]
+    libraries = [importlib.metadata.version(name) for name in ('jinja2', 'lxml')]
     digest = hashlib.sha256(json.dumps([local, host, kept, libraries, sys.version_info[:2]]).encode())
     for path in read:
         if path.is_file():

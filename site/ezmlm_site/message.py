@@ -1,5 +1,7 @@
 """A mail as a reader sees it: who wrote it, its subject, its texts, its attachments, and what else is to be said of it.
 
+What a mail is called and what it answers is read by `naming`, and what of its attachments is read as text by `below`.
+
 A mail is hostile input. What `email` is given is bounded before (bytes, lines, and lines times boundaries, since each line is compared to each
 boundary), what it raises is caught, and a mail that can't be taken apart is shown as its source.
 """
@@ -14,9 +16,7 @@ import email.utils
 import re
 from collections.abc import Iterator
 
-import html2text
-
-from . import words
+from . import html_text, links, naming, words
 
 LONGEST_LINE = 1_000_000     # bytes
 MOST_HELD = 45_000_000       # bytes that `email` holds of a mail: twice those past ASCII, and 60 for each line
@@ -27,12 +27,9 @@ MOST_FILES = 100             # attachments that are written
 MOST_TEXT = 100_000          # characters of a mail's texts that are shown
 MOST_SOURCE = 20_000         # characters of a source that is shown for lack of a text
 MOST_FIELDS = 100            # fields of a header that are shown
-MOST_HTML = 200_000          # characters of HTML that are read
-MOST_TAGS = 10_000           # in these
-MOST_DEPTH = 200             # lists and quotes, each of which may be in another one
-INDENTS = re.compile('<(?:blockquote|[uod]l)', re.IGNORECASE)
+MOST_BELOW = 50_000          # characters of texts that are attached, and of mails within a mail, that are shown
 BOUNDARY = re.compile(rb'boundary', re.IGNORECASE)
-MESSAGE_ID = re.compile(r'<([^<>\s]{1,500})>')
+TEXT_NAMES = re.compile(r'\.(?:patch|diff|txt|log|csv)', re.IGNORECASE)  # files that are read as text though their kind doesn't say so
 SIGNED_TEXT = '-----BEGIN PGP SIGNED MESSAGE-----'
 ENCRYPTED_TEXT = '-----BEGIN PGP MESSAGE-----'
 
@@ -59,37 +56,78 @@ class Attachment:
     content: bytes
 
 
+@dataclasses.dataclass(frozen=True)
+class Section:
+    """A text of a mail: `text` or `html` of its own, or below it `file` (an attachment, by its name) or `mail` (one within, by its subject). HTML has
+    tokens, and its text is what they say."""
+    kind: str
+    title: str
+    text: str
+    tokens: tuple[html_text.Token, ...] = ()
+
+
+Note = tuple[str, ...]  # words of the pages' own, and what stands in them
+
+
 @dataclasses.dataclass
 class Shown:
     """What is shown of a mail. Addresses are as they were written."""
     author: str = ''
     subject: str = ''
-    message_id: str = ''                     # without its angle brackets, or empty
-    text: str = ''
+    naming: naming.Naming = naming.NONE
+    body: list[Section] = dataclasses.field(default_factory=list)
+    below: list[Section] = dataclasses.field(default_factory=list)
     is_source: bool = False                  # whether the text is the mail's source, since it can't be taken apart
-    notes: list[str] = dataclasses.field(default_factory=list)
+    notes: list[Note] = dataclasses.field(default_factory=list)
     fields: list[tuple[str, str]] = dataclasses.field(default_factory=list)
     attachments: list[Attachment] = dataclasses.field(default_factory=list)
+
+    @property
+    def text(self) -> str:
+        return '\n\n'.join(section.text for section in self.body)
 
 
 def read(raw: bytes) -> Shown:
     """What is shown of a mail, which may be any bytes. It never raises, unless memory runs out."""
-    shown = Shown()
-    header = raw[:MOST_HEADER].replace(b'\r\n', b'\n').partition(b'\n\n')[0]
-    try:
-        look_at_fields(email.message_from_bytes(header + b'\n\n', policy=POLICY), shown)
-    except Exception:  # Whatever `email` raises, for which there is no list.
-        shown.notes.append('The fields of this mail can\'t be read.')
     try:
         bound(raw)
-        look_at_parts(email.message_from_bytes(raw, policy=POLICY), shown)
-    except Exception as error:  # The same, and RecursionError and MemoryError among it.
-        why = str(error) if isinstance(error, Unreadable) else 'it isn\'t in the form that mails have'
-        shown.notes.append(f'This mail can\'t be taken apart ({why}), so its source is shown.')
-        shown.is_source = True
-        shown.attachments = []
-        shown.text = words.clean(words.decoded(raw[:4 * MOST_SOURCE], None))[:MOST_SOURCE]
+        mail = email.message_from_bytes(raw, policy=POLICY)
+        shown = with_fields(raw, mail)
+        look_at_parts(mail, shown)
+    except Exception as error:  # Whatever `email` raises, for which there is no list, and RecursionError and MemoryError among it.
+        shown = with_fields(raw)
+        shown.notes.append(why_source(str(error) if isinstance(error, Unreadable) else 'it isn\'t in the form that mails have'))
+        show_source(raw, shown)
     return shown
+
+
+def with_fields(raw: bytes, mail: email.message.Message | None = None) -> Shown:
+    """What the fields of a mail say. The header of one that isn't taken apart yet is read alone."""
+    shown = Shown()
+    try:
+        look_at_fields(mail or email.message_from_bytes(raw[:MOST_HEADER].replace(b'\r\n', b'\n').partition(b'\n\n')[0] + b'\n\n', policy=POLICY), shown)
+    except Exception:  # As above.
+        shown.notes.append(('The fields of this mail can\'t be read.',))
+    return shown
+
+
+def why_source(why: str) -> Note:
+    """The note of a mail that is shown as its source."""
+    return 'This mail can\'t be taken apart ({0}), so its source is shown.', why
+
+
+def show_source(raw: bytes, shown: Shown) -> None:
+    shown.is_source = True
+    shown.attachments, shown.below = [], []
+    shown.body = [Section('text', '', words.clean(words.decoded(raw[:4 * MOST_SOURCE], None))[:MOST_SOURCE])]
+
+
+def naming_of(raw: bytes) -> naming.Naming:
+    """What a mail is called and answers, by its fields alone."""
+    try:
+        return naming.read(email.message_from_bytes(raw[:MOST_HEADER].replace(b'\r\n', b'\n').partition(b'\n\n')[0] + b'\n\n', policy=POLICY))
+    except Exception:  # As of `read`.
+        return naming.NONE
 
 
 def bound(raw: bytes) -> None:
@@ -113,8 +151,7 @@ def bound(raw: bytes) -> None:
 def look_at_fields(mail: email.message.Message, shown: Shown) -> None:
     shown.subject = words.one_line(str(mail.get('Subject', '')), 500)
     shown.author = author_of(str(mail.get('From', '')))
-    found = MESSAGE_ID.search(str(mail.get('Message-ID', ''))[:1000])
-    shown.message_id = words.clean(found[1]) if found else ''
+    shown.naming = naming.read(mail)
     for name, value in list(mail.items())[:MOST_FIELDS]:
         if name.lower() not in ('from', 'subject'):
             shown.fields.append((words.one_line(name, 100), words.one_line(str(value))))
@@ -132,27 +169,71 @@ def author_of(value: str) -> str:
 
 
 def look_at_parts(mail: email.message.Message, shown: Shown) -> None:
-    texts: list[str] = []
-    left = MOST_TEXT
+    left, below = MOST_TEXT, MOST_BELOW
     dropped = 0
     for part in parts_of(mail, shown.notes):
         if is_text(part, mail):
-            if left > 0:
-                texts.append(text_of(part)[:left])
-                left -= len(texts[-1])
+            if left > 0 and (section := section_of(part, left)):
+                shown.body.append(section)
+                left -= len(section.text)
         elif len(shown.attachments) < MOST_FILES:
-            attach(part, shown)
+            if attach(part, shown) and below > 0 and (found := section_below(part, shown.attachments[-1], below)):
+                shown.below.append(found)
+                below -= len(found.text)
         else:
             dropped += 1
-    shown.text = '\n\n'.join(text.strip('\n') for text in texts if text.strip())
     if left <= 0:
-        shown.notes.append(f'Only the first {MOST_TEXT:,} characters of its text are shown.')
+        shown.notes.append(('Only the first {0} characters of its text are shown.', f'{MOST_TEXT:,}'))
     if dropped:
-        shown.notes.append(f'{dropped:,} further parts stand in its source alone.')
-    if SIGNED_TEXT in shown.text:
-        shown.notes.append('Its text is signed (OpenPGP); the signature was not checked.')
-    if ENCRYPTED_TEXT in shown.text:
-        shown.notes.append('Its text is encrypted (OpenPGP).')
+        shown.notes.append(('{0} further parts stand in its source alone.', f'{dropped:,}'))
+    if any(SIGNED_TEXT in section.text for section in shown.body):
+        shown.notes.append(('Its text is signed (OpenPGP); the signature was not checked.',))
+    if any(ENCRYPTED_TEXT in section.text for section in shown.body):
+        shown.notes.append(('Its text is encrypted (OpenPGP).',))
+
+
+def section_of(part: email.message.Message, most: int) -> Section | None:
+    """A part's text, up to a length; none if it is blank."""
+    content = words.decoded(content_of(part), part.get_content_charset())
+    if part.get_content_type() == 'text/html':
+        tokens = html_text.cut(html_text.read(words.clean(content[:html_text.MOST_HTML])), most)
+        text = html_text.text_of(tokens)
+        return Section('html', '', text, tuple(tokens)) if text.strip() else None
+    text = words.clean(content[:2 * MOST_TEXT])
+    if str(part.get_param('format', '')).lower() == 'flowed':
+        text = unflowed(text, str(part.get_param('delsp', '')).lower() == 'yes')
+    text = links.unwrapped(text[:most]).strip('\n')
+    return Section('text', '', text) if text.strip() else None
+
+
+def section_below(part: email.message.Message, attachment: Attachment, most: int) -> Section | None:
+    """What is shown below a mail of an attachment: the text of a file or of a mail; none of another kind."""
+    try:
+        payload = part.get_payload()
+        if attachment.kind == 'message/rfc822' and isinstance(payload, list) and payload and isinstance(payload[0], email.message.Message):
+            return section_of_mail(payload[0], most)
+        if not (attachment.kind.startswith('text/') or TEXT_NAMES.fullmatch(attachment.name[-6:].rpartition('.')[1] + attachment.name.rpartition('.')[2])):
+            return None
+        if attachment.kind == 'text/html':
+            section = section_of(part, most)
+            return dataclasses.replace(section, kind='file', title=attachment.name) if section else None
+        if b'\0' in attachment.content[:4 * most]:
+            return None
+        text = words.clean(words.decoded(attachment.content[:4 * most], part.get_content_charset()))[:most].rstrip('\n')
+        return Section('file', attachment.name, text) if text.strip() else None
+    except Exception:  # Whatever `email` raises of one part; it is an attachment all the same.
+        return None
+
+
+def section_of_mail(mail: email.message.Message, most: int) -> Section:
+    """A mail within a mail: who wrote it, when and about what, and its texts."""
+    head = [f'{name}: {words.one_line(str(mail.get(name, "")), 500)}' for name in ('From', 'Date', 'Subject') if mail.get(name)]
+    title = words.one_line(str(mail.get('Subject', '')), 200)
+    texts = [section for part in parts_of(mail, []) if is_text(part, mail) if (section := section_of(part, most))][:10]
+    if len(texts) == 1 and texts[0].kind == 'html':
+        lines = [token for line in head for token in (('', line), ('br', ''))]
+        return Section('mail', title, '\n'.join(head) + '\n\n' + texts[0].text, (('p', ''), *lines, ('/p', ''), *texts[0].tokens))
+    return Section('mail', title, ('\n'.join(head) + '\n\n' + '\n\n'.join(section.text for section in texts))[:most])
 
 
 def is_text(part: email.message.Message, mail: email.message.Message) -> bool:
@@ -164,7 +245,7 @@ def is_text(part: email.message.Message, mail: email.message.Message) -> bool:
     return part is mail or not part.get_filename()
 
 
-def parts_of(mail: email.message.Message, notes: list[str]) -> Iterator[email.message.Message]:
+def parts_of(mail: email.message.Message, notes: list[Note]) -> Iterator[email.message.Message]:
     """The parts to look at, in their order, without those that another one stands for."""
     left = [mail]
     looked = 0
@@ -176,7 +257,7 @@ def parts_of(mail: email.message.Message, notes: list[str]) -> Iterator[email.me
         payload = part.get_payload()
         kind = part.get_content_type()
         if note := note_of(part, kind):
-            notes.append(note)
+            notes.append((note,))
         if kind == 'message/rfc822' or not isinstance(payload, list):
             yield part
         elif kind == 'multipart/alternative':
@@ -186,12 +267,19 @@ def parts_of(mail: email.message.Message, notes: list[str]) -> Iterator[email.me
 
 
 def chosen(parts: list[email.message.Message]) -> email.message.Message:
-    """Of alternatives the plain one, or the one that has it, or the last."""
+    """Of alternatives the plain one, or the one that has it, or the last. A plain one that is blank stands for none."""
+    if len(parts) > 1:
+        parts = [part for part in parts if not is_blank(part)] or parts
     for wanted in ('text/plain',), ('multipart/mixed', 'multipart/related', 'multipart/alternative'), ('text/html',):
         for part in parts:
             if part.get_content_type() in wanted:
                 return part
     return parts[-1]
+
+
+def is_blank(part: email.message.Message) -> bool:
+    """Whether a part is plain text that has nothing to read."""
+    return part.get_content_type() == 'text/plain' and not part.is_multipart() and not content_of(part)[:MOST_TEXT].strip(b' \t\r\n\xa0\xc2')
 
 
 def note_of(part: email.message.Message, kind: str) -> str:
@@ -206,17 +294,6 @@ def note_of(part: email.message.Message, kind: str) -> str:
     return ''
 
 
-def text_of(part: email.message.Message) -> str:
-    """The text of a part, plain or HTML."""
-    text = words.decoded(content_of(part), part.get_content_charset())
-    if part.get_content_type() == 'text/html':
-        return words.clean(plain_of(text[:MOST_HTML]))
-    text = words.clean(text[:2 * MOST_TEXT])
-    if str(part.get_param('format', '')).lower() == 'flowed':
-        return unflowed(text, str(part.get_param('delsp', '')).lower() == 'yes')
-    return text
-
-
 def content_of(part: email.message.Message) -> bytes:
     """The decoded bytes of a part; of a mail within a mail its source."""
     payload = part.get_payload()
@@ -224,19 +301,6 @@ def content_of(part: email.message.Message) -> bytes:
         return b'\n'.join(inner.as_bytes() for inner in payload[:1] if isinstance(inner, email.message.Message))
     content = part.get_payload(decode=True)
     return content if isinstance(content, bytes) else b''
-
-
-def plain_of(html: str) -> str:
-    """HTML as text. What has more tags than a page, or makes html2text raise, is the text between its tags."""
-    reader = html2text.HTML2Text(bodywidth=0)
-    reader.ignore_images = True
-    reader.ignore_tables = True
-    try:
-        if html.count('<') <= MOST_TAGS and len(INDENTS.findall(html)) <= MOST_DEPTH:
-            return str(reader.handle(html))
-    except Exception:  # It reads what a stranger wrote, and tells nobody what it raises.
-        pass
-    return re.sub('<[^<>]*>', ' ', html)
 
 
 def unflowed(text: str, drops_space: bool) -> str:
@@ -259,12 +323,14 @@ def quoted(marks: str, text: str) -> str:
     return f'{marks} {text}' if marks and text else marks + text
 
 
-def attach(part: email.message.Message, shown: Shown) -> None:
-    """Adds a part to the attachments, or says that it can't be read."""
+def attach(part: email.message.Message, shown: Shown) -> bool:
+    """Adds a part to the attachments, or says that it can't be read. The answer is whether it was added."""
     kind = words.one_line(part.get_content_type(), 100)
     try:
         name = part.get_filename() or ('message.eml' if kind == 'message/rfc822' else '')
         name = words.one_line(str(name), 200) or kind.replace('/', '-')
         shown.attachments.append(Attachment(name, kind, content_of(part)))
+        return True
     except Exception:  # Whatever `email` raises of one part; the others are shown.
-        shown.notes.append(f'A part of the kind {kind} can\'t be read, and stands in its source alone.')
+        shown.notes.append(('A part of the kind {0} can\'t be read, and stands in its source alone.', kind))
+        return False

@@ -41,8 +41,11 @@ BLOCKS = [
     ('> a\n> b\nc', [('quote', 2), ('text', 1)]),
     ('Jo wrote:\n> a\n>> b\n\nyes', [('text', 1), ('quote', 2), ('text', 1)]),
     ('> - a point\n> + another', [('quote', 2)]),
-    ('diff --git a/x b/x\n--- a/x\n+++ b/x\n@@ -1 +1 @@\n-a\n+b\n\nthat is all', [('fixed', 6), ('text', 1)]),
-    ('--- x\n+++ y\n@@ -1 +1 @@\n-a\n+b\n-- \n2.39', [('fixed', 5), ('signature', 2)]),
+    ('diff --git a/x b/x\n--- a/x\n+++ b/x\n@@ -1 +1 @@\n-a\n+b\n\nthat is all', [('patch', 6), ('text', 1)]),
+    ('--- x\n+++ y\n@@ -1 +1 @@\n-a\n+b\n-- \n2.39', [('patch', 5), ('signature', 2)]),
+    ('--- x\n+++ y\n@@ -1,2 +1 @@\n-a\n-- \n+b\n-- \n2.39', [('patch', 6), ('signature', 2)]),
+    ('int main(void)\n{\n\treturn 0;\n}', [('fixed', 4)]),
+    ('    one();\n\n    two();', [('fixed', 3)]),
     ('--- a dash of a thought', [('text', 1)]),
     ('name     size\ncat      3\ndog      4', [('fixed', 3)]),
     ('+---+---+\n| a | b |\n+---+---+', [('fixed', 3)]),
@@ -52,7 +55,7 @@ BLOCKS = [
     ('', []),
     ('\n\n \n', []),
 ]
-ELEMENTS = {'p', 'br', 'pre', 'blockquote', 'details', 'summary', 'a'}
+ELEMENTS = {'p', 'br', 'pre', 'span', 'blockquote', 'details', 'summary', 'a'}
 
 
 class Elements(html.parser.HTMLParser):
@@ -90,7 +93,30 @@ def case_escapes(_: World) -> None:
 def case_blocks(_: World) -> None:
     """What is a quote, a patch, a table, a signature, and text."""
     for text, wanted in BLOCKS:
-        equal(f'the blocks of {text!a}', [(kind, len(lines)) for kind, lines in markup.blocks(text.split('\n'))], wanted)
+        equal(f'the blocks of {text!a}', [(kind, end - begin) for kind, begin, end in markup.blocks(text.split('\n'))], wanted)
+
+
+# A text, and a piece of its markup.
+SHOWN_AS = [
+    ('diff --git a/x b/x\n--- a/x\n+++ b/x\n@@ -1,2 +1,2 @@\n \tsame\n-\told\n+\tnew', '<pre class="patch"><span class="head">diff --git a/x b/x\n--- a/x\n+++ b/x</span>\n'
+     '<span class="hunk">@@ -1,2 +1,2 @@</span>\n \tsame\n<span class="del">-\told</span>\n<span class="add">+\tnew</span></pre>'),
+    ('--- x\n+++ y\n@@ -1 +0,0 @@\n--- gone', '<span class="del">--- gone</span>'),
+    ('> see\n> @@ -1 +1 @@\n> -\told\n> +\tnew\n> as it was', '<p>&gt; see</p>\n<pre class="patch"><span class="hunk">&gt; @@ -1 +1 @@</span>\n<span class="del">&gt; -\told</span>\n'
+     '<span class="add">&gt; +\tnew</span></pre>\n<p>&gt; as it was</p>'),
+    ('> int x(void)\n> {\n> \treturn 1;\n> }', '<blockquote dir="auto"><pre>&gt; int x(void)\n&gt; {\n&gt; \treturn 1;\n&gt; }</pre>\n</blockquote>'),
+    ('@@ -1 +1 @@\n+<b>', '<span class="add">+&lt;b&gt;</span>'),
+    ('    short', '<pre>    short</pre>'),
+    ('    ' + 'x' * 80, '<pre tabindex="0">'),
+]
+
+
+def case_patches(_: World) -> None:
+    """Patches have their lines in classes, quoted ones too, and code keeps its columns; only what may be wider than its box is a stop of the Tab key."""
+    for text, wanted in SHOWN_AS:
+        found = str(markup.marked_up(text))
+        holds(f'the markup of {text!a} has no {wanted!a}: {found!a}', wanted in found)
+    file = str(markup.as_file('a note\n\n--- x\n+++ y\n@@ -1 +1 @@\n-a\n+b\n'))
+    holds(f'a file is {file!a}', file.startswith('<pre class="source">a note\n</pre>\n<pre class="patch">') and '<span class="add">+b</span>' in file)
 
 
 def case_folds(_: World) -> None:
@@ -102,7 +128,7 @@ def case_folds(_: World) -> None:
 
 
 def case_elements(_: World) -> None:
-    """Whatever the text, the markup has seven elements alone, and no attribute but those that are written here."""
+    """Whatever the text, the markup has eight elements alone, and no attribute but those that are written here."""
     pieces = ['<script>', '"', "'", '>', '<', '&', '=', 'http://a.b/', 'mailto:a@b', 'javascript:', ' on', '\n', '\n\n', '> ', '    ', '--- ', '+++ ', '-- ', '|', '\t',
               '@@ -1', '(', ')', 'é', '\u2028', '\xa0', '`', '{{', '{%']
     seed = 1

@@ -3,6 +3,7 @@
 from __future__ import annotations
 
 import contextlib
+import re
 from collections.abc import Iterator
 
 from ezmlm_site import pages
@@ -31,9 +32,13 @@ def step(world: World, about: str, wanted: set[str]) -> None:
     stamps = {name: (world.web / name).stat().st_mtime_ns for name in before}
     world.make()
     after = tree(world.web)
-    equal(f'{about}: the files that changed', sorted(changed(before, after)), sorted(wanted))
+    new = changed(before, after)
+    beside = {name for name in new if name.endswith('.mbox.gz') or re.fullmatch(r'thread/[0-9]+\.xml', name)}  # A thread's mailbox and feed
+    equal(f'{about}: the files that changed', sorted(new - beside), sorted(wanted))
+    holds(f'{about}: feeds and mailboxes of other threads changed: {beside}', all(re.sub(r'(?:-[0-9]+)?\.(?:xml|mbox\.gz)$', '.', name) in
+                                                                               {re.sub(r'(?:-[0-9]+)?\.html$', '.', each) for each in new} for name in beside))
     touched = {name for name, stamp in stamps.items() if name in after and (world.web / name).stat().st_mtime_ns != stamp}
-    equal(f'{about}: the files that were written and have the same bytes', touched - wanted, set())
+    equal(f'{about}: the files that were written and have the same bytes', touched - new, set())
     equal(f'{about}: what differs from the site that is made anew', changed(after, world.anew()), set())
 
 
@@ -54,7 +59,7 @@ def case_growing(world: World) -> None:
         world.post(mail('Re: one'), moment=BEGAN + 240)
         step(world, 'a second page of the thread', leading | {'4.html', '5.html', '5.eml', 'thread/1.html', 'thread/1-2.html', '2001-09.html'})
         world.post(mail('Re: one'), moment=BEGAN + 40 * DAY)
-        step(world, 'another month', leading | {'5.html', '6.html', '6.eml', 'thread/1-2.html', '2001-09.html', '2001-10.html'})
+        step(world, 'another month', leading | {'5.html', '6.html', '6.eml', 'thread/1.html', 'thread/1-2.html', '2001-09.html', '2001-10.html'})
         step(world, 'nothing new', set())
 
 

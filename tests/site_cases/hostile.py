@@ -5,6 +5,7 @@ from __future__ import annotations
 import base64
 import os
 import pathlib
+import re
 import subprocess
 import time
 
@@ -57,7 +58,7 @@ ROWS: list[tuple[str, bytes]] = [
     ('names with ../', fields(b'../../../../etc/passwd')),
     ('links that are none', mail(body='javascript:alert(1) <a href="javascript:alert(1)">x</a> data:text/html,<b> http://x"onclick="alert(1)\n')),
     ('HTML with scripts', header('text/html') + MARKUP + b'<a href="javascript:alert(1)">x</a><svg onload=alert(1)><style>*{}</style><iframe src=x>'),
-    ('HTML that html2text raises over', header('text/html') + b'&#xffffffffff;&#99999999999;<ol start=x><li>y<table><td>'),
+    ('HTML with numbers that are no characters', header('text/html') + b'&#xffffffffff;&#99999999999;<ol start=x><li>y<table><td>'),
     ('parts 1,000 deep', nested(1000)),
     ('parts 60 deep', nested(60)),
     ('mails within mails, 1,000 deep', b'Subject: x\nTo: cats@ex.org\n' + b'Content-Type: message/rfc822\n\n' * 1000 + b'hi\n'),
@@ -102,9 +103,9 @@ ROWS: list[tuple[str, bytes]] = [
     ('a part of a mail that is external', header('message/external-body; access-type=x')),
 ]
 ELEMENTS = {'html', 'head', 'meta', 'title', 'link', 'body', 'a', 'header', 'p', 'form', 'label', 'input', 'button', 'main', 'h1', 'h2', 'h3', 'article',
-            'span', 'bdi', 'time', 'pre', 'blockquote', 'br', 'details', 'summary', 'ul', 'ol', 'li', 'small', 'dl', 'dt', 'dd', 'nav', 'footer', 'section'}
+            'span', 'bdi', 'b', 'i', 's', 'code', 'table', 'tbody', 'tr', 'td', 'th', 'caption', 'hr', 'div', 'time', 'pre', 'blockquote', 'br', 'details', 'summary', 'ul', 'ol', 'li', 'small', 'dl', 'dt', 'dd', 'nav', 'footer', 'section'}
 ATTRIBUTES = {'lang', 'charset', 'name', 'content', 'rel', 'href', 'type', 'title', 'class', 'id', 'action', 'method', 'role', 'for', 'maxlength', 'value',
-              'dir', 'datetime', 'tabindex', 'download', 'aria-label', 'aria-labelledby'}
+              'dir', 'datetime', 'start', 'colspan', 'tabindex', 'download', 'aria-label', 'aria-labelledby'}
 
 
 def of_templates_alone(web: pathlib.Path, name: str) -> None:
@@ -117,7 +118,9 @@ def of_templates_alone(web: pathlib.Path, name: str) -> None:
         url = element.get('href') or ''
         is_within = '://' not in url and not url.startswith(('//', '/')) and ':' not in url.split('/')[0]
         holds(f'{name} has a link to {url!a}', is_within or url.startswith(('http://', 'https://', 'ftp://', 'mailto:')))
-        if is_within and url and tag in ('a', 'link'):
+        if is_within and url.startswith('m/'):  # The search answers it.
+            holds(f'{name} leads to {url!a}', re.fullmatch(r'm/[A-Za-z0-9@+=$!*%._~-]+/', url))
+        elif is_within and url and tag in ('a', 'link'):
             path = (web / name).parent / url.split('#')[0]
             holds(f'{name} leads to {url!a}, which isn\'t there', path.is_file() and path.resolve().is_relative_to(web.resolve()) or url.startswith('#'))
 

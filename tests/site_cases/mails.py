@@ -88,7 +88,7 @@ ROWS = [
     # Parts.
     Row('alternatives', parts('alternative', PLAIN, HTML), text='plain'),
     Row('alternatives, HTML first', parts('alternative', HTML, PLAIN), text='plain'),
-    Row('HTML alone', mime('text/html', b'<style>p{}</style><p>of <b>HTML</b><script>alert(1)</script>\n'), has=('of **HTML**',), lacks=('alert', 'p{}', '<')),
+    Row('HTML alone', mime('text/html', b'<style>p{}</style><p>of <b>HTML</b><script>alert(1)</script>\n'), text='of HTML'),
     Row('a link in HTML', mime('text/html', b'<a href="https://x.org/y">here</a>'), has=('here', 'https://x.org/y')),
     Row('a script as a link in HTML', mime('text/html', b'<a href="javascript:alert(1)">here</a>'), has=('here',)),
     Row('a text and a picture', parts('mixed', PLAIN, PICTURE), text='plain', files=(('cat.png', 'image/png', PNG),)),
@@ -164,7 +164,7 @@ def case_mails(_: World) -> None:
             holds(f'{row.about}: the text lacks {piece!a}: {shown.text!a}', piece in shown.text)
         for piece in row.lacks:
             holds(f'{row.about}: the text has {piece!a}: {shown.text!a}', piece not in shown.text)
-        equal(f'{row.about}: the notes', tuple(shown.notes), row.notes)
+        equal(f'{row.about}: the notes', tuple(note[0].format(*note[1:]) for note in shown.notes), row.notes)
         equal(f'{row.about}: the attachments', tuple((each.name, each.kind, each.content) for each in shown.attachments), row.files)
         holds(f'{row.about}: it is shown as its source', not shown.is_source)
 

@@ -121,7 +121,7 @@ def case_search_limits(world: World) -> None:
         big = store.Store(world.site.state / 'cats.sqlite')
         with big.change():
             for n in range(100, 2100):
-                big.add(n, store.Post(n, n, 0, BEGAN, '2001-09', False, 'x', 'y', 'cat dog mouse ' * 20))
+                big.put(big.add(store.Post(n, n, 0, BEGAN, '2001-09', False, 'x', 'y', n, text='cat dog mouse ' * 20)))
         big.close()
         status, _, page = ask(application, 'q=cat&by=rank')
         holds(f'it is answered {status}', status.startswith('503') and 'too long' in page)
