@@ -1,5 +1,5 @@
 // Mails that the list sends: each is one entry of the queue.
-ghost use Rattle.std.specs.Prelude.{◌≡◌, ◌∷◌, [], true, IsTrue, IfOk};
+ghost use Rattle.std.specs.Prelude.{◌≡◌, true, IsTrue, IfOk};
 ghost use Rattle.ml_base.specs.Address.{key};
 ghost use Rattle.ml_base.specs.Dir.{Dir, are_files, same_name, touches_only, with_puts};
 ghost use Rattle.ml_base.specs.ReadFiles.{IsReading, NamesDamaged};
@@ -16,7 +16,7 @@ ghost use Rattle.ml_acts.specs.Found.{QueuesMail, QueuesOut, QueuesToSet};
 
 use crate::{Moment, recipients, reply_path};
 use ml_address::Path;
-use ml_base::{Address, AddressList, Bytes, Files, PartError, Row, Set, Txn};
+use ml_base::{Address, AddressList, Bytes, Files, PartError, Set, Txn, list_of_one};
 use ml_config::Config;
 use ml_queue::{Out, put};
 use ml_reply::{Mail, text};
@@ -65,16 +65,6 @@ pub(crate) fn send_out<F: Files>(alloc: Global, files: &mut F, out: &Out) -> Res
 {
     let (_, txn) = put(alloc, files, out)?;
     Ok(txn)
-}
-
-// The list of one address.
-fn list_of_one(alloc: Global, who: &Address) -> Result<AddressList, AllocError>
-    ensures value { IfOk result (λ to. to ≡ who.now ∷ []) }
-    ensures sorted { IfOk result (λ to. is_sorted byte_cmp key to ≡ true) }
-{
-    let mut to = Row::new(alloc);
-    to.push(who.copy(alloc)?)?;
-    Ok(to)
 }
 
 /// The text of a mail as it is sent at this moment, in seconds since 1970. It takes the mail, so that its callers needn't drop it.

@@ -1,30 +1,18 @@
 // The list's own addresses: envelope senders, and addresses that confirm.
-ghost use Rattle.std.specs.Prelude.{◌≡◌, ◌++◌, ◌∷◌, IfOk, IsTrue, codes};
+ghost use Rattle.std.specs.Prelude.{◌≡◌, ◌++◌, IfOk, IsTrue, codes};
 ghost use Rattle.std.specs.Fmt.{decimal};
-ghost use Rattle.ml_base.specs.Address.{IsAddress, key};
-ghost use Rattle.ml_base.specs.Texts.{list_address};
+ghost use Rattle.ml_base.specs.Address.{key};
 ghost use Rattle.ml_address.specs.Requests.{is_asked};
-ghost use Rattle.ml_address.specs.Writing.{ticket_text};
 ghost use Rattle.ml_config.specs.Configuration.{IsConfig};
 ghost use Rattle.ml_plain.specs.Mailing as spec;
 ghost use Rattle.ml_plain.specs.Plain.{Plain};
-ghost use Rattle.ml_acts.specs.Cookies.{bounce_base, cookie_of};
+ghost use Rattle.ml_acts.specs.Cookies.{bounce_base};
 
 use crate::{Moment, new_cookie};
 use ml_address::{Path, Request, Who, Word, set_front, word_text, write_request};
-use ml_base::{Address, Bytes, Set, write_number};
+use ml_base::{Address, Bytes, Set, key_of, write_number};
 use ml_config::{Config, Keys};
 use std::alloc::{AllocError, Global};
-
-/// The key of an address: all its letters in lower case.
-pub fn key_of(alloc: Global, who: &Address) -> Result<Bytes, AllocError>
-    ensures key { IfOk result (λ k. k ≡ key who.now) }
-    ensures address { IsAddress who.now }
-{
-    let mut bytes = Vec::from_slice(alloc, who.bytes())?;
-    bytes.as_mut_slice().make_ascii_lowercase();
-    Ok(Bytes::from_vec(bytes))
-}
 
 // The path LOCAL-base@HOST.
 fn path(alloc: Global, config: &Config, base: &[u8], each: bool) -> Result<Path, AllocError>

@@ -5,3 +5,4 @@ pub mod Reads
 pub mod Damaged
 pub mod Found
 pub mod Written
+pub mod Lookups

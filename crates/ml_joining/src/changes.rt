@@ -9,7 +9,8 @@ ghost use Rattle.ml_plain.specs.Managing as spec;
 ghost use Rattle.ml_plain.specs.Plain.{Plain, is_full, is_in};
 ghost use Rattle.ml_acts.specs.Doing.{Alike, DoesList, HasIds, is_changed_for};
 ghost use Rattle.ml_joining.specs.Damaged.{AnswersLooking};
-ghost use Rattle.ml_joining.specs.Found.{FoundToDo, FoundToJoin, FoundToPart};
+ghost use Rattle.ml_base.specs.Lookups.{Answers};
+ghost use Rattle.ml_joining.specs.Lookups as asked;
 ghost use Rattle.ml_joining.specs.Operations.{IsSubject, MayDo, operation_of};
 ghost use Rattle.ml_joining.specs.Reads.{is_read_to, is_read_to_leave, is_touched_with_mail};
 ghost use Rattle.ml_joining.specs.Written.{is_written_to, is_written_to_join};
@@ -19,14 +20,16 @@ use crate::confirmation_mails::{ask, ask_moderators};
 use crate::notices::{Notice, notify};
 use crate::operations::{Action, reply_of};
 use crate::subjects::Subject;
-use ml_acts::{Moment, remove_member};
+use crate::parts::{add, remove_member};
+use ml_acts::Moment;
 use ml_base::{Address, Files, PartError, Set, Txn};
 use ml_config::Config;
 use ml_plain::Reply;
-use ml_subs::{AddAnswer, add};
+use ml_subs::AddAnswer;
 use std::alloc::Global;
 
 // Does what a request to join or to leave makes.
+#[tactic(auto, unfolding(crate::specs::Lookups::carried))]
 pub(crate) fn carry_out<F: Files>(
     alloc: Global,
     files: &mut F,
@@ -40,9 +43,7 @@ pub(crate) fn carry_out<F: Files>(
     requires config { IsConfig config.now }
     requires asked { IsTrue (is_asked set) }
     requires room { IsTrue F.tells → HasIds (F.map files.now) }
-    ensures apart { (change : Change) → MayDo change x.now.member action → IsTrue F.tells → IfOk result (λ done. (dir : Dir) (p : Plain) → Alike (is_read_to change set x.now.named) (F.map files.old) dir → IsList dir p → p.config ≡ config.now → IsSubject p set x.now → DoesList dir done (spec.done now.seconds set sender.now x.now.who p (operation_of action))) }
-    ensures found { IsTrue F.tells → IfOk result (FoundToDo (F.map files.old) set (key x.now.named) (operation_of action)) }
-    ensures act { (change : Change) → MayDo change x.now.member action → AnswersLooking (is_written_to change set x.now.named) ⟦<F as Files>⟧ (is_read_to change set x.now.named) files.old files.new result }
+    ensures { Answers ⟦<F as Files>⟧ (asked.carried config.now now.seconds set sender.now x.now (operation_of action)) files.old files.new result }
 {
     let who = &x.who;
     match action {
@@ -66,6 +67,7 @@ pub(crate) fn carry_out<F: Files>(
 }
 
 // An address that a set doesn't have joins it, if there is room, and is welcomed.
+#[tactic(auto, unfolding(crate::specs::Lookups::joining))]
 fn join<F: Files>(
     alloc: Global,
     files: &mut F,
@@ -75,9 +77,7 @@ fn join<F: Files>(
     who: &Address,
 ) -> Result<(Txn, Reply), PartError>
     requires room { IsTrue F.tells → HasIds (F.map files.now) }
-    ensures apart { IsTrue F.tells → IfOk result (λ done. (dir : Dir) (p : Plain) → Alike (is_touched_with_mail set who.now) (F.map files.old) dir → IsList dir p → p.config ≡ config.now → is_in p set who.now ≡ false → DoesList dir done (spec.joined now.seconds set who.now (is_full p set) p)) }
-    ensures found { IsTrue F.tells → IfOk result (FoundToJoin (F.map files.old) set (key who.now)) }
-    ensures act { AnswersLooking (is_written_to_join set who.now) ⟦<F as Files>⟧ (is_touched_with_mail set who.now) files.old files.new result }
+    ensures { Answers ⟦<F as Files>⟧ (asked.joining config.now now.seconds set who.now) files.old files.new result }
 {
     // By its bytes it is known to be an address.
     let _address = who.bytes();
@@ -92,6 +92,7 @@ fn join<F: Files>(
 }
 
 // An address that a set has leaves it, and gets its goodbye.
+#[tactic(auto, unfolding(crate::specs::Lookups::leaving))]
 fn leave<F: Files>(
     alloc: Global,
     files: &mut F,
@@ -101,9 +102,7 @@ fn leave<F: Files>(
     x: &Subject,
 ) -> Result<(Txn, Reply), PartError>
     requires room { IsTrue F.tells → HasIds (F.map files.now) }
-    ensures apart { IsTrue F.tells → IfOk result (λ done. (dir : Dir) (p : Plain) → Alike (is_read_to_leave set x.now.named) (F.map files.old) dir → IsList dir p → p.config ≡ config.now → IsSubject p set x.now → x.now.member ≡ true → DoesList dir done (spec.left now.seconds set x.now.who p)) }
-    ensures found { IsTrue F.tells → IfOk result (FoundToPart (F.map files.old) set (key x.now.named)) }
-    ensures act { AnswersLooking (is_changed_for set x.now.named) ⟦<F as Files>⟧ (is_read_to_leave set x.now.named) files.old files.new result }
+    ensures { Answers ⟦<F as Files>⟧ (asked.leaving config.now now.seconds set x.now.who x.now.named) files.old files.new result }
 {
     match remove_member(alloc, files, set, &x.named)? {
         Some(txn) => {

@@ -12,13 +12,15 @@ ghost use Rattle.ml_reply.specs.declared.mails.Mail.TheVariants.{AskTc};
 ghost use Rattle.ml_acts.specs.Acting.{AnswersWithin};
 ghost use Rattle.ml_acts.specs.Doing.{Alike, DoesList, HasIds, is_bucket, is_of_queue};
 ghost use Rattle.ml_acts.specs.Damaged.{IsDamaged};
-ghost use Rattle.ml_joining.specs.Found.{FoundToAsk, FoundToAskModerators};
+ghost use Rattle.ml_base.specs.Lookups.{Answers};
+ghost use Rattle.ml_joining.specs.Lookups as asked;
 ghost use Rattle.ml_joining.specs.Reads.{is_for_mail};
 
-use ml_acts::{Moment, confirm_address, owner_address, with_mail, with_mail_to_moderators};
+use crate::parts::{keys, with_mail, with_mail_to_moderators};
+use ml_acts::{Moment, confirm_address, owner_address};
 use ml_address::Word;
 use ml_base::{Address, Bytes, Files, PartError, Set, Txn};
-use ml_config::{Config, key};
+use ml_config::Config;
 use ml_plain::Reply;
 use ml_reply::Mail;
 use std::alloc::{AllocError, Global};
@@ -59,6 +61,7 @@ fn question(
 }
 
 // Asks an address to confirm something of another, or of itself: the puts of the mail, and the reply.
+#[tactic(auto, unfolding(crate::specs::Lookups::asking))]
 pub(crate) fn ask<F: Files>(
     alloc: Global,
     files: &mut F,
@@ -72,11 +75,9 @@ pub(crate) fn ask<F: Files>(
     requires config { IsConfig config.now }
     requires asked { IsTrue (is_asked set) }
     requires room { IsTrue F.tells → HasIds (F.map files.now) }
-    ensures apart { IsTrue F.tells → IfOk result (λ done. (dir : Dir) (p : Plain) → Alike is_for_mail (F.map files.old) dir → IsList dir p → p.config ≡ config.now → DoesList dir done (spec.ask to.now now.seconds word set x.now p, answers.asked)) }
-    ensures found { IsTrue F.tells → IfOk result (FoundToAsk (F.map files.old)) }
-    ensures act { AnswersWithin is_of_queue ⟦<F as Files>⟧ (λ name. is_for_mail name ≡ true) (IsDamaged (F.map files.old)) files.old files.new result }
+    ensures { Answers ⟦<F as Files>⟧ (asked.asking config.now now.seconds word set to.now x.now) files.old files.new result }
 {
-    let keys = key(alloc, files)?;
+    let keys = keys(alloc, files)?;
     let reply = confirm_address(alloc, config, &keys, word, set, x, now)?;
     let mail = question(alloc, word, to, reply, set, x)?;
     let reply = Reply::plain(Reply::ASKED);
@@ -104,6 +105,7 @@ fn moderators_question(
 }
 
 // Asks the moderators to confirm a subscription: the puts of the mail, and the reply.
+#[tactic(auto, unfolding(crate::specs::Lookups::asking_moderators))]
 pub(crate) fn ask_moderators<F: Files>(
     alloc: Global,
     files: &mut F,
@@ -115,13 +117,11 @@ pub(crate) fn ask_moderators<F: Files>(
     requires config { IsConfig config.now }
     requires asked { IsTrue (is_asked set) }
     requires room { IsTrue F.tells → HasIds (F.map files.now) }
-    ensures apart { IsTrue F.tells → IfOk result (λ done. (dir : Dir) (p : Plain) → Alike (λ name. is_for_mail name || is_bucket sets.Moderators name) (F.map files.old) dir → IsList dir p → p.config ≡ config.now → DoesList dir done (spec.ask_moderators now.seconds set x.now p, answers.asked)) }
-    ensures found { IsTrue F.tells → IfOk result (FoundToAskModerators (F.map files.old)) }
-    ensures act { AnswersWithin is_of_queue ⟦<F as Files>⟧ (λ name. (is_for_mail name || is_bucket sets.Moderators name) ≡ true) (IsDamaged (F.map files.old)) files.old files.new result }
+    ensures { Answers ⟦<F as Files>⟧ (asked.asking_moderators config.now now.seconds set x.now) files.old files.new result }
 {
-    let keys = key(alloc, files)?;
+    let keys = keys(alloc, files)?;
     let reply = confirm_address(alloc, config, &keys, Word::Tc, set, x, now)?;
     let mail = moderators_question(alloc, config, reply, set, x)?;
     let reply = Reply::plain(Reply::ASKED);
-    with_mail_to_moderators(alloc, files, config, Txn::new(alloc), now, mail, reply)
+    with_mail_to_moderators(alloc, files, config, now, mail, reply)
 }

@@ -10,10 +10,12 @@ ghost use Rattle.ml_queue.specs.Answers.{ids_name};
 ghost use Rattle.ml_acts.specs.Acting.{AnswersWithin};
 ghost use Rattle.ml_acts.specs.Doing.{DoesList, HasIds, is_beside_queue, is_of_queue};
 ghost use Rattle.ml_acts.specs.Damaged.{IsDamaged};
-ghost use Rattle.ml_joining.specs.Found.{SendsMail};
+ghost use Rattle.ml_base.specs.Lookups.{Answers};
+ghost use Rattle.ml_joining.specs.Lookups as asked;
 ghost use Rattle.ml_joining.specs.Notices as spec;
 
-use ml_acts::{Moment, with_mail};
+use crate::parts::with_mail;
+use ml_acts::Moment;
 use ml_base::{Address, Bytes, Files, PartError, Set, Txn};
 use ml_config::Config;
 use ml_plain::Reply;
@@ -65,6 +67,7 @@ fn notice_reply(notice: Notice) -> Reply
 }
 
 // Some puts, and after them the mail of a notice: all puts are of the files of these and of the queue.
+#[tactic(auto, unfolding(crate::specs::Lookups::notified))]
 pub(crate) fn notify<F: Files>(
     alloc: Global,
     files: &mut F,
@@ -77,11 +80,7 @@ pub(crate) fn notify<F: Files>(
     txn: Txn,
 ) -> Result<(Txn, Reply), PartError>
     requires room { IsTrue F.tells → HasIds (F.map files.now) }
-    requires others { touches_only is_beside_queue txn ≡ true }
-    requires names { IsTrue (are_files txn) }
-    ensures apart { IsTrue F.tells → IfOk result (λ done. (dir : Dir) (p : Plain) → dir ids_name ≡ F.map files.old ids_name → IsList (with_puts dir txn) p → p.config ≡ config.now → DoesList dir done (mail_to to.now now.seconds (spec.notice_mail notice to.now set x.now) p, spec.notice_reply notice)) }
-    ensures found { IsTrue F.tells → IfOk result (SendsMail (F.map files.old) txn (spec.notice_reply notice)) }
-    ensures act { (may : Name → Bool) → ((name : Name) → is_of_queue name ≡ true → may name ≡ true) → touches_only may txn ≡ true → AnswersWithin may ⟦<F as Files>⟧ (λ name. same_name name ids_name ≡ true) (IsDamaged (F.map files.old)) files.old files.new result }
+    ensures { Answers ⟦<F as Files>⟧ (asked.notified config.now now.seconds notice set to.now x.now txn) files.old files.new result }
 {
     let mail = notice_mail(alloc, notice, to, set, x)?;
     with_mail(

@@ -18,7 +18,9 @@ ghost use Rattle.ml_acts.specs.Damaged.{IsDamaged};
 ghost use Rattle.ml_acts.specs.Found.{TellsKeys, TellsMember};
 ghost use Rattle.ml_joining.specs.Damaged.{AnswersLooking};
 ghost use Rattle.ml_joining.specs.Cases as cases;
-ghost use Rattle.ml_joining.specs.Found.{FoundByRequest, FoundToConfirm, FoundToSubscribe, FoundToUnsubscribe};
+ghost use Rattle.ml_base.specs.Lookups.{Answers};
+ghost use Rattle.ml_joining.specs.Lookups as asked;
+ghost use Rattle.ml_joining.specs.declared.operations.Change.TheVariants as changes;
 ghost use Rattle.ml_joining.specs.Operations.{IsSubject, asked_of, requested};
 ghost use Rattle.ml_joining.specs.Reads as reads;
 ghost use Rattle.ml_joining.specs.Reads.{is_read_by_request, is_read_to_confirm, is_read_to_subscribe, is_read_to_unsubscribe};
@@ -28,10 +30,11 @@ use crate::changes::carry_out;
 use crate::decisions::{Facts, confirmed, decide};
 use crate::operations::Change;
 use crate::subjects::{Subject, find_subject, is_moderator_if};
-use ml_acts::{Moment, is_good as good_cookie, key_of};
+use ml_acts::{Moment, is_good as good_cookie};
 use ml_address::{Who, Word, word_text};
-use ml_base::{Address, Files, PartError, Set, Txn};
-use ml_config::{Config, key as load_keys};
+use ml_base::{Address, Files, PartError, Set, Txn, key_of};
+use crate::parts::keys as load_keys;
+use ml_config::Config;
 use ml_plain::Reply;
 use std::alloc::Global;
 
@@ -50,9 +53,7 @@ pub fn subscribe<F: Files>(
     requires asked { IsTrue (is_asked set) }
     requires range { IsTrue (if_who (option_map who_view who)) }
     requires room { IsTrue F.tells → HasIds (F.map files.now) }
-    ensures apart { IsTrue F.tells → IfOk result (λ done. (dir : Dir) (p : Plain) → Alike (is_read_to_subscribe config.now sender.now set (asked_of sender.now (option_map who_view who.entry))) (F.map files.old) dir → IsList dir p → p.config ≡ config.now → DoesList dir done (spec.subscribe now.seconds sender.now set (spec.subject_of p set sender.now (option_map who_view who.entry)) p)) }
-    ensures found { IsTrue F.tells → IfOk result (FoundToSubscribe (F.map files.old) config.now sender.now set (asked_of sender.now (option_map who_view who.entry))) }
-    ensures act { AnswersLooking (is_written_to_join set (asked_of sender.now (option_map who_view who.entry))) ⟦<F as Files>⟧ (is_read_to_subscribe config.now sender.now set (asked_of sender.now (option_map who_view who.entry))) files.old files.new result }
+    ensures { Answers ⟦<F as Files>⟧ (asked.requesting changes.Joining config.now now.seconds sender.now set (asked_of sender.now (option_map who_view who.entry))) files.old files.new result }
 {
     let change = Change::Joining;
     request(alloc, files, config, now, change, sender, set, who)
@@ -73,15 +74,14 @@ pub fn unsubscribe<F: Files>(
     requires asked { IsTrue (is_asked set) }
     requires range { IsTrue (if_who (option_map who_view who)) }
     requires room { IsTrue F.tells → HasIds (F.map files.now) }
-    ensures apart { IsTrue F.tells → IfOk result (λ done. (dir : Dir) (p : Plain) → Alike (is_read_to_unsubscribe config.now sender.now set (asked_of sender.now (option_map who_view who.entry))) (F.map files.old) dir → IsList dir p → p.config ≡ config.now → DoesList dir done (spec.unsubscribe now.seconds sender.now set (spec.subject_of p set sender.now (option_map who_view who.entry)) p)) }
-    ensures found { IsTrue F.tells → IfOk result (FoundToUnsubscribe (F.map files.old) config.now sender.now set (asked_of sender.now (option_map who_view who.entry))) }
-    ensures act { AnswersLooking (is_changed_for set (asked_of sender.now (option_map who_view who.entry))) ⟦<F as Files>⟧ (is_read_to_unsubscribe config.now sender.now set (asked_of sender.now (option_map who_view who.entry))) files.old files.new result }
+    ensures { Answers ⟦<F as Files>⟧ (asked.requesting changes.Leaving config.now now.seconds sender.now set (asked_of sender.now (option_map who_view who.entry))) files.old files.new result }
 {
     let change = Change::Leaving;
     request(alloc, files, config, now, change, sender, set, who)
 }
 
 // A sender asks that an address joins a set or leaves it.
+#[tactic(auto, unfolding(crate::specs::Lookups::requesting))]
 fn request<F: Files>(
     alloc: Global,
     files: &mut F,
@@ -96,9 +96,7 @@ fn request<F: Files>(
     requires asked { IsTrue (is_asked set) }
     requires range { IsTrue (if_who (option_map who_view who)) }
     requires room { IsTrue F.tells → HasIds (F.map files.now) }
-    ensures apart { IsTrue F.tells → IfOk result (λ done. (dir : Dir) (p : Plain) → Alike (is_read_by_request change config.now sender.now set (asked_of sender.now (option_map who_view who.entry))) (F.map files.old) dir → IsList dir p → p.config ≡ config.now → DoesList dir done (requested change now.seconds sender.now set (spec.subject_of p set sender.now (option_map who_view who.entry)) p)) }
-    ensures found { IsTrue F.tells → IfOk result (FoundByRequest (F.map files.old) set (key (asked_of sender.now (option_map who_view who.entry))) (reads.asks_rank_to change config.now) sender.now (cases.asked change config.now.flags set)) }
-    ensures act { AnswersLooking (is_written_to change set (asked_of sender.now (option_map who_view who.entry))) ⟦<F as Files>⟧ (is_read_by_request change config.now sender.now set (asked_of sender.now (option_map who_view who.entry))) files.old files.new result }
+    ensures { Answers ⟦<F as Files>⟧ (asked.requesting change config.now now.seconds sender.now set (asked_of sender.now (option_map who_view who.entry))) files.old files.new result }
 {
     let x = find_subject(alloc, files, set, sender, who)?;
     request_found(alloc, files, config, now, change, sender, set, &x)
@@ -115,6 +113,7 @@ fn asks_rank(change: Change, config: &Config) -> bool
 }
 
 // A sender asks that somebody joins a set or leaves it. The set was searched for him.
+#[tactic(auto, unfolding(crate::specs::Lookups::requesting_about))]
 fn request_found<F: Files>(
     alloc: Global,
     files: &mut F,
@@ -128,9 +127,7 @@ fn request_found<F: Files>(
     requires config { IsConfig config.now }
     requires asked { IsTrue (is_asked set) }
     requires room { IsTrue F.tells → HasIds (F.map files.now) }
-    ensures apart { IsTrue F.tells → IfOk result (λ done. (dir : Dir) (p : Plain) → Alike (is_read_by_request change config.now sender.now set x.now.named) (F.map files.old) dir → IsList dir p → p.config ≡ config.now → IsSubject p set x.now → DoesList dir done (requested change now.seconds sender.now set x.now.who p)) }
-    ensures found { IsTrue F.tells → IfOk result (λ done. TellsMember (F.map files.old) set (key x.now.named) x.now.member → FoundByRequest (F.map files.old) set (key x.now.named) (reads.asks_rank_to change config.now) sender.now (cases.asked change config.now.flags set) done) }
-    ensures act { AnswersLooking (is_written_to change set x.now.named) ⟦<F as Files>⟧ (is_read_by_request change config.now sender.now set x.now.named) files.old files.new result }
+    ensures { Answers ⟦<F as Files>⟧ (asked.requesting_about change config.now now.seconds sender.now set x.now) files.old files.new result }
 {
     let moderator = is_moderator_if(alloc, files, asks_rank(change, config), sender)?;
     let facts = Facts {
@@ -144,6 +141,7 @@ fn request_found<F: Files>(
 
 /// A sender confirms that an address joins a set or leaves it, with a cookie for the address. The set is one that requests name. What it
 /// does is said of a list with this configuration, whose file isn't read.
+#[tactic(auto, unfolding(crate::specs::Lookups::confirmed))]
 pub fn confirm<F: Files>(
     alloc: Global,
     files: &mut F,
@@ -160,9 +158,7 @@ pub fn confirm<F: Files>(
     requires asked { IsTrue (is_asked set) }
     requires range { IsTrue (is_who (who_view who)) }
     requires room { IsTrue F.tells → HasIds (F.map files.now) }
-    ensures apart { IsTrue F.tells → IfOk result (λ done. (dir : Dir) (p : Plain) → Alike (is_read_to_confirm word set (address_named (who_view who.entry))) (F.map files.old) dir → IsList dir p → p.config ≡ config.now → DoesList dir done (spec.confirm now.seconds sender.now word set (record { time = time; cookie = cookie.now; who = who_view who.entry }) (spec.subject_of p set sender.now (Some (who_view who.entry))) p)) }
-    ensures found { IsTrue F.tells → IfOk result (FoundToConfirm (F.map files.old) config.now word set (address_named (who_view who.entry))) }
-    ensures act { AnswersLooking (is_written_to_confirm word set (address_named (who_view who.entry))) ⟦<F as Files>⟧ (is_read_to_confirm word set (address_named (who_view who.entry))) files.old files.new result }
+    ensures { Answers ⟦<F as Files>⟧ (asked.confirmed config.now now.seconds sender.now word set time cookie.now (address_named (who_view who.entry))) files.old files.new result }
 {
     let x = find_subject(alloc, files, set, sender, Some(who))?;
     confirm_found(
@@ -171,6 +167,7 @@ pub fn confirm<F: Files>(
 }
 
 // A sender confirms something of somebody. The set was searched for him.
+#[tactic(auto, unfolding(crate::specs::Lookups::confirming_about))]
 fn confirm_found<F: Files>(
     alloc: Global,
     files: &mut F,
@@ -186,9 +183,7 @@ fn confirm_found<F: Files>(
     requires config { IsConfig config.now }
     requires asked { IsTrue (is_asked set) }
     requires room { IsTrue F.tells → HasIds (F.map files.now) }
-    ensures apart { IsTrue F.tells → IfOk result (λ done. (dir : Dir) (p : Plain) → Alike (is_read_to_confirm word set x.now.named) (F.map files.old) dir → IsList dir p → p.config ≡ config.now → IsSubject p set x.now → DoesList dir done (spec.done now.seconds set sender.now x.now.who p (spec.confirming p set x.now.who word (is_good p (word_text word) set time (key x.now.who) cookie.now now.seconds)))) }
-    ensures found { IsTrue F.tells → IfOk result (λ done. TellsMember (F.map files.old) set (key x.now.named) x.now.member → FoundToConfirm (F.map files.old) config.now word set x.now.named done) }
-    ensures act { AnswersLooking (is_written_to_confirm word set x.now.named) ⟦<F as Files>⟧ (is_read_to_confirm word set x.now.named) files.old files.new result }
+    ensures { Answers ⟦<F as Files>⟧ (asked.confirming_about config.now now.seconds sender.now word set time cookie.now x.now) files.old files.new result }
 {
     let good = is_signed(alloc, files, now.seconds, word, set, time, cookie, &x.who)?;
     let action = confirmed(config, word, x.member, good);
@@ -196,6 +191,7 @@ fn confirm_found<F: Files>(
 }
 
 // Whether letters are a good cookie of a confirmation of an address.
+#[tactic(auto, unfolding(crate::specs::Lookups::signed_by))]
 fn is_signed<F: Files>(
     alloc: Global,
     files: &mut F,
@@ -206,10 +202,7 @@ fn is_signed<F: Files>(
     cookie: &[u8; 20],
     x: &Address,
 ) -> Result<bool, PartError>
-    ensures apart { IsTrue F.tells → IfOk result (λ good. (dir : Dir) (p : Plain) → dir key_name ≡ F.map files.old key_name → IsList dir p → good ≡ is_good p (word_text word) set time (key x.now) cookie.now now) }
-    ensures found { IsTrue F.tells → IfOk result (λ _. TellsKeys (F.map files.old)) }
-    ensures names { NamesDamaged ⟦<F as Files>⟧ (λ name. same_name name key_name ≡ true) (IsDamaged (F.map files.old)) result }
-    ensures reads { IsReading ⟦<F as Files>⟧ files.old files.new result }
+    ensures { Answers ⟦<F as Files>⟧ (asked.signed_by now word set time cookie.now x.now) files.old files.new result }
 {
     let keys = load_keys(alloc, files)?;
     let what = key_of(alloc, x)?;

@@ -12,14 +12,15 @@ ghost use Rattle.std.specs.Prelude.{◌&&◌};
 ghost use Rattle.ml_acts.specs.Doing.{Alike, is_bucket_of};
 ghost use Rattle.ml_base.specs.Dir.{Dir};
 ghost use Rattle.ml_acts.specs.Damaged.{IsDamaged};
-ghost use Rattle.ml_acts.specs.Found.{TellsMember};
+ghost use Rattle.ml_base.specs.Lookups.{Answers};
+ghost use Rattle.ml_joining.specs.Lookups as asked;
 ghost use Rattle.ml_base.specs.Address.{key};
 ghost use Rattle.ml_base.specs.Bytes.{lower};
 ghost use Rattle.ml_joining.specs.Operations.{IsSubject, asked_of};
 
 use ml_address::Who;
 use ml_base::{Address, Bytes, Files, PartError, Set};
-use ml_subs::{find, member};
+use crate::parts::{find, member};
 use std::alloc::{AllocError, Global};
 
 // Whom a request is about: the address that is named, how the set spells it if the set has it, and whether it does.
@@ -67,6 +68,7 @@ fn asked_address(
 }
 
 // Whom a request about a set is about, by the set's files.
+#[tactic(auto, unfolding(crate::specs::Lookups::subject_in))]
 pub(crate) fn find_subject<F: Files>(
     alloc: Global,
     files: &mut F,
@@ -75,11 +77,7 @@ pub(crate) fn find_subject<F: Files>(
     who: Option<Who<'_>>,
 ) -> Result<Subject, PartError>
     requires { IsTrue (if_who (option_map who_view who)) }
-    ensures apart { IsTrue F.tells → IfOk result (λ x. (dir : Dir) (p : Plain) → Alike (is_bucket_of set (asked_of sender.now (option_map who_view who.entry))) (F.map files.old) dir → IsList dir p → IsSubject p set x) }
-    ensures named { IfOk result (λ x. x.named ≡ asked_of sender.now (option_map who_view who.entry)) }
-    ensures found { IsTrue F.tells → IfOk result (λ x. TellsMember (F.map files.old) set (key x.named) x.member) }
-    ensures names { NamesDamaged ⟦<F as Files>⟧ (λ name. is_bucket_of set (asked_of sender.now (option_map who_view who.entry)) name ≡ true) (IsDamaged (F.map files.old)) result }
-    ensures reads { IsReading ⟦<F as Files>⟧ files.old files.new result }
+    ensures { Answers ⟦<F as Files>⟧ (asked.subject_in set (asked_of sender.now (option_map who_view who.entry))) files.old files.new result }
 {
     let named = asked_address(alloc, sender, who)?;
     match find(alloc, files, set, &named)? {
@@ -100,19 +98,16 @@ pub(crate) fn find_subject<F: Files>(
 }
 
 /// Whether the sender is a moderator, if that is asked; otherwise false.
+#[tactic(auto, unfolding(crate::specs::Lookups::rank_if))]
 pub fn is_moderator_if<F: Files>(
     alloc: Global,
     files: &mut F,
-    asked: bool,
+    asks: bool,
     sender: &Address,
 ) -> Result<bool, PartError>
-    ensures apart { IsTrue F.tells → IfOk result (λ is. (dir : Dir) (p : Plain) → Alike (λ name. asked && is_bucket_of sets.Moderators sender.now name) (F.map files.old) dir → IsList dir p → is ≡ (asked && is_moderator p sender.now)) }
-    ensures found { IsTrue F.tells → IfOk result (λ is. asked ≡ true → TellsMember (F.map files.old) sets.Moderators (key sender.now) is) }
-    ensures unasked { IfOk result (λ is. asked ≡ false → is ≡ false) }
-    ensures names { NamesDamaged ⟦<F as Files>⟧ (λ name. (asked && is_bucket_of sets.Moderators sender.now name) ≡ true) (IsDamaged (F.map files.old)) result }
-    ensures reads { IsReading ⟦<F as Files>⟧ files.old files.new result }
+    ensures { Answers ⟦<F as Files>⟧ (asked.rank_if asks sender.now) files.old files.new result }
 {
-    if !asked {
+    if !asks {
         return Ok(false);
     }
     member(alloc, files, Set::Moderators, sender)

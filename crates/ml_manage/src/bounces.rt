@@ -20,15 +20,15 @@ ghost use Rattle.ml_subs.specs.Subscribers.{is_touched};
 ghost use Rattle.ml_acts.specs.Acting.{AnswersWithin};
 ghost use Rattle.ml_acts.specs.Asked.{Count, IsDamagedOf};
 ghost use Rattle.ml_acts.specs.Damaged.{IsDamaged};
-ghost use Rattle.ml_acts.specs.Doing.{Alike, DoesList, is_bucket_of, is_entry_of, is_left_by};
+ghost use Rattle.ml_acts.specs.Doing.{Alike, DoesList, is_entry_of, is_left_by};
 ghost use Rattle.ml_acts.specs.Found.{Says, TellsKeys};
 ghost use Rattle.ml_manage.specs.Found.{FoundToDrop, FoundToNote, FoundToProbe, FoundToWarn, IfMember, TellsLedger, TellsUsed};
 ghost use Rattle.ml_manage.specs.Leaving.{change_reply, of_probe, of_warning};
 ghost use Rattle.ml_manage.specs.Reads.{is_counted_in, is_of_bounce, is_of_probe, is_of_signed, is_of_warning};
 
 use crate::members::is_member;
-use ml_acts::{Moment, is_good, key_of, remove_member};
-use ml_base::{Address, Files, PartError, Set, Txn};
+use ml_acts::{Moment, is_good, remove_member};
+use ml_base::{Address, Files, PartError, Set, Txn, key_of};
 use ml_bounce::{is_probed_at, note, warn_failed};
 use ml_config::key;
 use ml_digest::mark;

@@ -1,8 +1,6 @@
 // The help text, and mail that goes on to the owner.
-ghost use Rattle.std.specs.Prelude.{◌≡◌, ◌∷◌, [], true, IsTrue, IfOk};
-ghost use Rattle.ml_base.specs.Address.{key};
+ghost use Rattle.std.specs.Prelude.{◌≡◌, [], true, IsTrue, IfOk};
 ghost use Rattle.ml_base.specs.Dir.{Dir, same_name};
-ghost use Rattle.ml_base.specs.Sorted.{byte_cmp, is_sorted};
 ghost use Rattle.ml_plain.specs.Directory.{IsList};
 ghost use Rattle.ml_plain.specs.Managing as spec;
 ghost use Rattle.ml_plain.specs.Plain.{Plain};
@@ -15,11 +13,11 @@ ghost use Rattle.ml_joining.specs.Found.{SendsMail};
 ghost use Rattle.ml_manage.specs.Found.{FoundToOwner};
 
 use ml_acts::{Moment, reply_path, send, with_mail};
-use ml_base::{Address, AddressList, Bytes, Files, PartError, Row, Txn};
+use ml_base::{Address, Bytes, Files, PartError, Txn, list_of_one};
 use ml_config::Config;
 use ml_plain::Reply;
 use ml_reply::Mail;
-use std::alloc::{AllocError, Global};
+use std::alloc::Global;
 
 // The help text goes to a sender.
 pub(crate) fn send_help<F: Files>(
@@ -67,14 +65,4 @@ pub(crate) fn to_owner<F: Files>(
     let to = list_of_one(alloc, &config.owner)?;
     let txn = send(alloc, files, way, body, to)?;
     Ok((txn, Reply::plain(Reply::OWNER)))
-}
-
-// The list of one address.
-fn list_of_one(alloc: Global, who: &Address) -> Result<AddressList, AllocError>
-    ensures value { IfOk result (λ to. to ≡ who.now ∷ []) }
-    ensures sorted { IfOk result (λ to. is_sorted byte_cmp key to ≡ true) }
-{
-    let mut to = Row::new(alloc);
-    to.push(who.copy(alloc)?)?;
-    Ok(to)
 }

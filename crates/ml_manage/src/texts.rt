@@ -10,7 +10,7 @@ ghost use Rattle.ml_manage.specs.Texts as words;
 use ml_base::{Bytes, LAST_MOMENT};
 use ml_config::Config;
 use ml_filing::{Entry, Post};
-use ml_reply::date_text;
+use ml_reply::{add_list, date_text};
 use std::alloc::{AllocError, Global};
 
 // The line of an answer if there are no such posts.
@@ -18,15 +18,6 @@ pub(crate) fn no_posts(alloc: Global) -> Result<Bytes, AllocError>
     ensures { IfOk result (λ text. text ≡ words.no_posts) }
 {
     Bytes::from_slice(alloc, b"No such posts.\n")
-}
-
-// Adds LOCAL@HOST.
-fn add_list(out: &mut Bytes, config: &Config) -> Result<(), AllocError>
-    ensures { OnOk result (out.new ≡ out.old ++ post_address config.now.local config.now.host) }
-{
-    out.extend(config.local.as_slice())?;
-    out.push(b'@')?;
-    out.extend(config.host.as_slice())
 }
 
 // Adds a text, and an LF if it doesn't end in one.

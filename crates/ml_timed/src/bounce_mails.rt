@@ -12,8 +12,8 @@ ghost use Rattle.ml_acts.specs.Damaged.{IsDamaged};
 ghost use Rattle.ml_acts.specs.Doing.{DrawsId, HasIds, is_of_queue};
 ghost use Rattle.ml_timed.specs.Telling as telling;
 
-use ml_acts::{Moment, bounce_path, key_of, mail_body, send};
-use ml_base::{Address, AddressList, Bytes, Files, PartError, Row, Set, Txn};
+use ml_acts::{Moment, bounce_path, mail_body, send};
+use ml_base::{Address, AddressList, Bytes, Files, PartError, Row, Set, Txn, key_of};
 use ml_bounce::Action;
 use ml_config::{Config, Keys};
 use ml_reply::Mail;
