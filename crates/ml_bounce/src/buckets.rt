@@ -1,5 +1,5 @@
 // Names, reads and writes the files of a set's ledger.
-ghost use Rattle.std.specs.Prelude.{◌≡◌, ◌<◌, ◌∷◌, [], true, ℕ, List, IsTrue, IfOk, unwrap_or};
+ghost use Rattle.std.specs.Prelude.{◌≡◌, ◌<◌, ◌∷◌, [], List, IsTrue, IfOk};
 ghost use Rattle.ml_base.specs.Address.{key, IsAddress};
 ghost use Rattle.ml_base.specs.Name.{is_file};
 ghost use Rattle.ml_base.specs.ReadFiles.{IsReading, NamesDamaged};
@@ -7,19 +7,9 @@ ghost use Rattle.ml_bounce.specs.Answers.{has_ledger, ledger_kind, key_file, IsB
 ghost use Rattle.ml_bounce.specs.Files.{IsLedgerFile, ledger_name, bucket_of};
 
 use crate::entry_records::Entries;
-use ml_base::{Address, Bytes, Files, Name, PartError, Put, Set, Txn};
+use ml_base::{Address, Bytes, Files, Name, PartError, Put, Set, Txn, key_of, text_of};
 use ml_keyed::{bucket_of, read_file};
 use std::alloc::{AllocError, Global};
-
-// The key of an address, the address in lower case.
-fn key_of(alloc: Global, who: &Address) -> Result<Bytes, AllocError>
-    ensures key { IfOk result (λ k. k ≡ key who.now) }
-    ensures address { IfOk result IsAddress }
-{
-    let mut bytes = Vec::from_slice(alloc, who.bytes())?;
-    bytes.as_mut_slice().make_ascii_lowercase();
-    Ok(Bytes::from_vec(bytes))
-}
 
 // The name of one of the files of a set's ledger.
 pub(crate) fn file_name(set: Set, n: u8) -> Name
@@ -50,16 +40,6 @@ pub(crate) fn written(
         bytes,
     })?;
     Ok(txn)
-}
-
-// The bytes of a file, or no bytes if it is absent.
-fn text_of(file: &Option<Bytes>) -> &[u8]
-    ensures { result.now ≡ unwrap_or file.now [] }
-{
-    match file {
-        Some(text) => text.as_slice(),
-        None => &[],
-    }
 }
 
 // The entries of one of the files of a set's ledger.

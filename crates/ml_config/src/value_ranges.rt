@@ -5,7 +5,7 @@ ghost use Rattle.ml_base.specs.Bytes.{lower};
 ghost use Rattle.ml_config.specs.Configuration as spec;
 
 use crate::{Config, Flags};
-use ml_base::{Address, Bytes, is_own};
+use ml_base::{Address, Bytes, is_own, lowered};
 use std::alloc::{AllocError, Global};
 
 const MAX_LOCAL: usize = 60;
@@ -62,13 +62,6 @@ fn is_list(alloc: Global, local: &[u8], host: &[u8]) -> Result<bool, AllocError>
     text.push(b'@')?;
     text.extend(host)?;
     Ok(Address::check(text.as_slice()).is_ok())
-}
-
-// A text in lower case.
-fn lowered(alloc: Global, text: &[u8]) -> Result<Bytes, AllocError>
-    ensures { IfOk result (λ bytes. bytes ≡ lower text.now) }
-{
-    Ok(Bytes::from_vec(text.to_ascii_lowercase(alloc)?))
 }
 
 // The configuration that these values make, with its hosts in lower case, or None if a value is out of its range.

@@ -1,7 +1,6 @@
 // Reads the files of the archive: the number of posts, an index, or a thread file.
-ghost use Rattle.std.specs.Prelude.{◌≡◌, ◌<◌, ◌≤◌, ℕ, IsTrue, IfOk, unwrap_or, []};
+ghost use Rattle.std.specs.Prelude.{◌≡◌, ◌<◌, ◌≤◌, IsTrue, IfOk};
 ghost use Rattle.std.specs.List.{AllByRecursion};
-ghost use Rattle.ml_base.specs.Name.{is_file};
 ghost use Rattle.ml_base.specs.ReadFiles.{IsReading, NamesDamaged};
 ghost use Rattle.ml_filing.specs.Answers.{IsNoNumber, IsNoIndex, IsNoThreads};
 ghost use Rattle.ml_filing.specs.Archive.{IsNumberFile, IsIndexFile};
@@ -12,19 +11,9 @@ ghost use Rattle.ml_filing.specs.Threads as threads;
 use crate::index_reader::index_of;
 use crate::numbers::count_of;
 use crate::{Entries, Threads};
-use ml_base::{Bytes, Files, Name, PartError};
+use ml_base::{Files, Name, PartError, text_of};
 use ml_keyed::read_file;
 use std::alloc::Global;
-
-// The bytes of a file, or no bytes if it is absent.
-pub(crate) fn text_of(file: &Option<Bytes>) -> &[u8]
-    ensures { result.now ≡ unwrap_or file.now [] }
-{
-    match file {
-        Some(text) => text.as_slice(),
-        None => &[],
-    }
-}
 
 // The number of posts, read from its file.
 pub(crate) fn read_count<F: Files>(alloc: Global, files: &mut F) -> Result<u64, PartError>

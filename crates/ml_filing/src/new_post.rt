@@ -15,13 +15,13 @@ ghost use Rattle.ml_filing.specs.Threads.{IsArchive, is_of_archive};
 ghost use Rattle.ml_filing.specs.declared.posts.Appended.TheVariants.{At};
 ghost use Rattle.ml_filing.specs.declared.posts.Post.{Post as ThePost};
 
-use crate::files::{read_count, read_thread_file, text_of};
+use crate::files::{read_count, read_thread_file};
 use crate::index_reader::{first_number, index_of, push_entry};
 use crate::numbers::count_text;
 use crate::subjects::{subject, subject_key};
 use crate::threads::{text_with_number, thread_place_of};
 use crate::{Appended, Thread};
-use ml_base::{Address, Bytes, Files, LAST_POST_NUMBER, Name, PartError, Put, Txn};
+use ml_base::{Address, Bytes, Files, LAST_POST_NUMBER, Name, PartError, Put, Txn, text_of};
 use ml_header::Message;
 use std::alloc::{AllocError, Global};
 

@@ -1,10 +1,10 @@
 // Subjects of posts, and their keys: posts whose subjects have the same key are one thread.
-ghost use Rattle.std.specs.Prelude.{◌≡◌, ◌<◌, ◌≤◌, ◌++◌, ◌∷◌, [], true, false, IsTrue, length, take, codes, IfOk, IfSome, OnOk};
+ghost use Rattle.std.specs.Prelude.{◌≡◌, ◌<◌, ◌≤◌, [], false, length, IfOk, IfSome};
 ghost use Rattle.std.specs.Option.{option_map};
 ghost use Rattle.ml_base.specs.Bytes.{Text, lower};
 ghost use Rattle.ml_filing.specs.Subjects as spec;
 
-use ml_base::Bytes;
+use ml_base::{Bytes, lowered};
 use ml_header::Message;
 use std::alloc::{AllocError, Global};
 
@@ -144,15 +144,6 @@ fn stripped<'a>(prefix: &[u8], text: &'a [u8]) -> &'a [u8]
         rest = without_front(more);
     }
     rest
-}
-
-// A text in lower case.
-fn lowered(alloc: Global, text: &[u8]) -> Result<Bytes, AllocError>
-    ensures { IfOk result (λ low. low ≡ lower text.now) }
-{
-    let mut bytes = Vec::from_slice(alloc, text)?;
-    bytes.as_mut_slice().make_ascii_lowercase();
-    Ok(Bytes::from_vec(bytes))
 }
 
 /// The key of a subject on a list with this prefix: posts with the same key are one thread. Letters are made lower

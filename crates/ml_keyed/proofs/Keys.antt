@@ -55,13 +55,6 @@ module _ {E : Type 0} (key_of : E → Text) where
       let rest = rising_ordered (key_of x) xs parts.1 in
       (and_from _ _ parts.0 (all_above floor (key_of x) xs parts.0 rest.0), and_from _ _ rest.0 rest.1)
 
-  pub ordered_rising : (floor : Text) (es : List E) → list_all (is_above key_of floor) es ≡ true → IsOrdered key_of es → rises key_of floor es ≡ true
-  ordered_rising floor [] e f = refl
-  ordered_rising floor (x ∷ xs) e f =
-      let parts = and_parts (is_above key_of floor x) (list_all (is_above key_of floor) xs) e in
-      let own = and_parts (list_all (is_above key_of (key_of x)) xs) _ f in
-      and_from _ _ parts.0 (ordered_rising (key_of x) xs own.0 own.1)
-
   -- a key below all keys of the records is not found
   pub all_above_none : (k : Text) (es : List E) → list_all (is_above key_of k) es ≡ true → found key_of k es ≡ None
   all_above_none k [] e = refl
