@@ -2,16 +2,17 @@
 use Rattle.std.proofs.Common.{◌≡◌, ◌∙◌, ◌≤◌, ◌⊎◌, ℕ, Bool, true, false, cond, inl, inr, nat_le, IsTrue, List, [], ◌∷◌, Option, Some, None, refl, sym, ap, subst, arith}
 use Rattle.std.proofs.lemmas.Bool.{and_from, le-leb}
 use Rattle.ml_base.specs.Bytes.{Text}
-use Rattle.ml_base.specs.Depending.{DependsOn, IsCertain, IsSpared}
-use Rattle.ml_base.specs.Dir.{Dir, with_puts}
+use Rattle.ml_base.specs.Depending.{DependsOn, IsSpared, Writes}
+use Rattle.ml_base.specs.Dir.{Dir, touches_only, with_puts}
 use Rattle.ml_base.specs.Drawn.{IsCounter}
 use Rattle.ml_base.specs.Lookups.{Lookup, broken as broken_file, done}
 use Rattle.ml_base.specs.Ranges.{is_drawn}
 use Rattle.ml_base.specs.declared.names.Name.{Name}
 use Rattle.ml_base.specs.declared.puts.Put.{Put}
-use Rattle.ml_base.proofs.LookupLaws.{depends_broken, depends_done, depends_then, either}
+use Rattle.ml_base.proofs.LookupLaws.{depends_broken, depends_done, depends_then, either, spared_then}
 use Rattle.ml_drawn.specs.Answers.{IsDrawing, IsTaking, drawn_puts}
 use Rattle.ml_drawn.specs.Names.{counter_name, is_of_series, thing_name}
+use Rattle.ml_drawn.specs.declared.counter.Counter.{Counter}
 use Rattle.ml_drawn.specs.declared.series.Series.TheVariants.{Tickets}
 use Rattle.ml_drawn.proofs.OfFiles as files
 use Rattle.ml_hold.specs.declared.posts.Held.{Held}
@@ -63,7 +64,7 @@ module _ (dir : Dir) where
   holding_draws held r is = go (nat_le is.0.next 1_000_000_000_000_000) refl is.2
     where
       go : (b : Bool) → nat_le is.0.next 1_000_000_000_000_000 ≡ b
-          → (cond b (done (is.0.next, drawn_puts Tickets is.0.low is.0.next (held_text held))) (broken_file (counter_name Tickets))).Is (Some dir) r → IsDrawing dir Tickets (held_text held) r.0 r.1
+          → (cond b (done {A = ℕ × List Put} (is.0.next, drawn_puts Tickets is.0.low is.0.next (held_text held))) (broken_file (counter_name Tickets))).Is (Some dir) r → IsDrawing dir Tickets (held_text held) r.0 r.1
       go true e said = subst (λ (d : ℕ × List Put). IsDrawing dir Tickets (held_text held) d.0 d.1) (sym said) (record {
         low = is.0.low;
         counted = is.1;
@@ -121,3 +122,46 @@ depends_looking looks ticket e = depends_then _ _ looks (depends_file_at looks t
 pub depends_next_drawn : (looks : Name → Bool) → looks (counter_name Tickets) ≡ true → DependsOn looks next_drawn
 unfolding next_drawn
 depends_next_drawn looks e = depends_then _ _ looks (depends_counted looks e) (λ c. depends_done looks c.next)
+
+-- the next ticket is that of the posts, and no file is damaged for it
+module _ (dir : Dir) (p : Pending) where
+  pub next_drawn_is : (next : ℕ) → IsCountedPending dir p → next_drawn.Is (Some dir) next → next ≡ p.next
+  unfolding next_drawn
+  next_drawn_is next is said = said.2 ∙ files.next_is IsHeld held_text Tickets dir (said.0).low (said.0).next said.1 p is
+
+  pub counted_spared : IsCountedPending dir p → IsSpared (counted Tickets) dir
+  counted_spared is name bad = bad.1 is.low p.next is.counted
+
+  pub next_drawn_spared : IsCountedPending dir p → IsSpared next_drawn dir
+  unfolding next_drawn
+  next_drawn_spared is = spared_then (counted Tickets) (λ c. done c.next) dir (counted_spared is) (λ c e name bad. bad)
+
+  -- nor for a post that is held while a ticket can be drawn
+  pub holding_spared : (held : Held) → IsCountedPending dir p → p.next ≤ 1_000_000_000_000_000 → IsSpared (holding held) dir
+  unfolding holding
+  holding_spared held is room = spared_then (counted Tickets) (λ (c : Counter). cond (nat_le c.next 1_000_000_000_000_000) (done {A = ℕ × List Put} (c.next, drawn_puts Tickets c.low c.next (held_text held))) (broken_file (counter_name Tickets))) dir (counted_spared is) more
+    where
+      more : (c : Counter) → IsCounter (dir (counter_name Tickets)) c.low c.next
+          → IsSpared (cond (nat_le c.next 1_000_000_000_000_000) (done {A = ℕ × List Put} (c.next, drawn_puts Tickets c.low c.next (held_text held))) (broken_file (counter_name Tickets))) dir
+      more c e =
+          let same = files.next_is IsHeld held_text Tickets dir c.low c.next e p is in
+          subst (λ (b : Bool). IsSpared (cond b (done {A = ℕ × List Put} (c.next, drawn_puts Tickets c.low c.next (held_text held))) (broken_file (counter_name Tickets))) dir)
+          (sym (le-leb c.next 1_000_000_000_000_000 (omega (arith, same, room)))) (λ name bad. bad)
+
+  -- nor for one that is taken out
+  pub taking_spared : (ticket : ℕ) → IsPending dir p → IsSpared (taking_out ticket) dir
+  unfolding taking_out
+  taking_spared ticket is = spared_then (looking ticket) (taken ticket) dir (looking_spared dir ticket p is) more
+    where
+      more : (found : Option Held) → (looking ticket).Is (Some dir) found → IsSpared (taken ticket found) dir
+      more None e name bad = bad
+      more (Some held) e name bad = spared_then {B = Option (Held × List Put)} (taking Tickets ticket) (λ (puts : List Put). done (Some (held, puts))) dir (λ m no. no.1 is.low p.next is.counted) (λ puts e m no. no) name bad
+
+-- a post that is held writes files of held posts alone
+pub holding_writes : (held : Held) → Writes {A = ℕ × List Put} (λ r. r.1) (is_of_series Tickets) (holding held)
+unfolding holding
+holding_writes held view r is = go (nat_le (is.0).next 1_000_000_000_000_000) is.2
+  where
+    go : (b : Bool) → (cond b (done {A = ℕ × List Put} ((is.0).next, drawn_puts Tickets (is.0).low (is.0).next (held_text held))) (broken_file (counter_name Tickets))).Is view r → touches_only (is_of_series Tickets) r.1 ≡ true
+    go true said = ap (λ (d : ℕ × List Put). touches_only (is_of_series Tickets) d.1) said
+    go false said = absurd said
