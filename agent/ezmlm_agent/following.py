@@ -62,6 +62,10 @@ class SharedList(own_copy.OwnCopy):
         if self.looking is not None:
             self.looking.cancel()
 
+    def is_sure(self) -> bool:
+        """Whether this copy is also known to be the history's, up to its last item: else whoever joined meanwhile would be refused for good."""
+        return super().is_sure() and self.is_taken_up and not self.is_new and not self.others and self.lead.hears() and self.place >= self.next
+
     def copies(self) -> notes.Copies | None:
         if self.kept is None or self.others or self.place < self.hands_from or not self.kept.term.holds():
             return None

@@ -85,6 +85,10 @@ class Leading:
         if (name in self.wanted) != is_wanted:
             self.wanted = self.wanted | {name} if is_wanted else self.wanted - {name}
 
+    def hears(self) -> bool:
+        """Whether the servers confirmed something in the last `takeover` seconds."""
+        return self.is_there and clock() < self.until
+
     def term(self, name: str) -> Term | None:
         """The time for which this host hands on, if it does now."""
         term = self.terms.get(name)

@@ -36,8 +36,7 @@ class MailingList:
         self.waiting: collections.deque[mails.Mail] = collections.deque()
         self.unanswered = mails.Unanswered((self.settings.memory << 20) // 4)
         self.notes: notes.Notes | None = None
-        self.is_due = False  # whether a timed run is
-        self.stopping = self.ended = False
+        self.is_due = self.stopping = self.ended = False  # whether a timed run is due; no more is begun; no more mail comes
         self.health = retrying.Health(path, self.name, self.threads, self.wake.set)
         self.said_out = retrying.Said(self.name, 'mail is handed on again')
         self.running: program.Run | None = None
@@ -175,6 +174,10 @@ class MailingList:
     def report(self) -> None:
         """An entry was handed on, of which the list is to be told."""
         self.wake.set()
+
+    def is_sure(self) -> bool:
+        """Whether nothing is known to be wrong with the list: by its files it can be told for good what it would refuse."""
+        return self.health.cause is None
 
     def copies(self) -> notes.Copies | None:
         """Where it is kept which copies were handed on, or None while this host hands nothing on."""

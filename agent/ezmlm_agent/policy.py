@@ -70,10 +70,12 @@ class Policy:
 
 async def judge(named: lists.Named, sender: bytes) -> str | None:
     """The word by which a list refuses mail of this sender by the envelope alone. It is None if it doesn't, and if that can't be told
-    soon: the list's files are read under its lock, between two runs."""
+    soon, or not for good: the list's files are read under its lock, between two runs, and only while they are known to be right."""
     read = functools.partial(envelope.refusal, rest=named.rest, sender=sender)
     try:
         async with asyncio.timeout(JUDGING), named.list.turn:
+            if not named.list.is_sure():
+                return None
             return await named.list.aside(folder.settled, named.list.folder, read)
     except (OSError, ValueError, folder.Held, folder.Unsettled):
         return None

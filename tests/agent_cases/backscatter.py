@@ -3,6 +3,7 @@
 import socket
 import sys
 
+from .machines import machines
 from .world import HOST, LONG, TOP, Client, begins, check, held, post, same, until
 
 sys.path.insert(0, str(TOP / 'agent'))
@@ -137,12 +138,34 @@ def case_policy_cant_tell(world):
     same(client.ask(DENIED, address('cats', None)), 'DUNNO', 'a damaged file')
     bucket.write_bytes(kept)
     begins(client.ask(DENIED, address('cats', None)), '550', 'the mended file')
+    (world.folder() / 'num').rename(world.folder() / 'kept')
+    (world.folder() / 'num').write_bytes(b'x')
+    begins(world.mail(MEMBER, [f'cats@{HOST}'], post(2))[0], '451', 'a post to a damaged list')
+    same(client.ask(DENIED, address('cats', None)), 'DUNNO', 'a list that is known to be damaged')
+    (world.folder() / 'kept').replace(world.folder() / 'num')
+    same(world.mail(MEMBER, [f'cats@{HOST}'], post(2))[0], '250 2.0.0 posted 1', 'the post again')
+    check(until(lambda: client.ask(DENIED, address('cats', None)).startswith('550')), 'the mended list')
     junk = PolicyClient(world.place / 'policy')
     junk.socket.sendall(b'x' * 10_000)
     same(junk.file.read(), b'', 'a line without an end')
     junk.close()
     same(world.post(1), '550 5.7.2 Only those who are known to this list may post.', 'the list')
     client.close()
+
+
+def case_shared_policy(world):
+    """A host refuses by policy only while it hears of the servers, and knows that its copy has all of the history."""
+    with machines(world, 1) as (those, (host,)):
+        host.rows['policy'] = host.place / 'policy'
+        host.begin()
+        same(host.post(1), '250 2.0.0 posted 1', 'a post')
+        client, nonsense = PolicyClient(host.place / 'policy'), address('cats', 'nonsense')
+        check(until(lambda: client.ask(STRANGER, nonsense).startswith('550 5.1.1')), 'a host that is right does not refuse')
+        those.kill(0)
+        check(until(lambda: client.ask(STRANGER, nonsense) == 'DUNNO'), 'a host that is cut off refuses')
+        those.all[0].start()
+        check(until(lambda: client.ask(STRANGER, nonsense).startswith('550 5.1.1')), 'it does not refuse when the servers are back')
+        client.close()
 
 
 def case_longest_local(world):
