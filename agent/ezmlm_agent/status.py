@@ -18,6 +18,7 @@ if TYPE_CHECKING:
 
 LATE = 60, 3600        # seconds for which the first item that a host hasn't answered may wait: with more it is a warning, or critical
 QUEUED = 3600, 86400   # seconds for which an entry may stand in the queue
+ODD = 2                # seconds by which a host's clock differs from the server's until it is said
 
 
 @dataclasses.dataclass(frozen=True)
@@ -88,7 +89,8 @@ def told(one: Standing, now: float) -> Iterator[str]:
     for host in one.hosts:
         behind = f'{host.behind} items and {host.late} s behind' if host.behind > 0 else f'{-host.behind} items ahead' if host.behind else 'has all'
         compared = 'never compared' if host.compared is None else f'compared {max(0, int(now - host.compared))} s ago'
-        yield f'{one.name}: {host.name} at item {host.place}, {behind}, {compared}' + ('' if host.is_there else ', not there')
+        clock = f', its clock {abs(host.ahead)} s {"before" if host.ahead > 0 else "after"} the server\'s' if abs(host.ahead) >= ODD else ''
+        yield f'{one.name}: {host.name} at item {host.place}, {behind}, {compared}{clock}' + ('' if host.is_there else ', not there')
 
 
 def report(every: Sequence[Standing], others: Sequence[asking.Fault] = ()) -> int:

@@ -15,6 +15,7 @@ from .machines import are_at_rest, are_the_same, machines
 from .world import HOST, MEMBERS, TOP, begins, check, same, until
 
 sys.path.insert(0, str(TOP / 'agent'))
+from ezmlm_agent import status as standings  # noqa: E402
 # What --give says meanwhile if it takes longer than ten seconds, as it does on a slow machine.
 UNANSWERED = 'ezmlm-agent: the items are in the history of cats, and no host has answered them yet'
 
@@ -126,6 +127,17 @@ def case_shared_status(world):
         says(2, 'no agent runs here', 'two hands on')
         three.begin()
         check(until(lambda: 'cats: three at item 515, has all' in one.command('--status')[1]), 'a host that was forgotten comes back')
+
+
+def case_status_rows(_):
+    """What --status says of a host: how far it is behind, or ahead of what the servers have, and by how much its clock differs."""
+    for host, wanted in ((standings.Host('one', 5), 'has all, never compared'),
+                         (standings.Host('one', 5, behind=3, late=7), '3 items and 7 s behind, never compared'),
+                         (standings.Host('one', 5, behind=-51, compared=90), '51 items ahead, compared 10 s ago'),
+                         (standings.Host('one', 5, ahead=1), 'has all, never compared'),
+                         (standings.Host('one', 5, ahead=40), 'has all, never compared, its clock 40 s before the server\'s'),
+                         (standings.Host('one', 5, ahead=-2, is_there=False), 'has all, never compared, its clock 2 s after the server\'s, not there')):
+        same(list(standings.told(standings.Standing('cats', None, 'one', [host]), 100.0))[1], f'cats: one at item 5, {wanted}', str(host))
 
 
 def case_status_alone(world):
