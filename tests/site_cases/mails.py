@@ -141,7 +141,7 @@ NAMES = [
     ('a.php. .', '1-a_php.bin'), ('a.png.', '1-a.png'), ('a.phtml', '1-a_phtml.bin'), ('a.shtml', '1-a_shtml.bin'), ('a.cgi', '1-a_cgi.bin'), ('a.svg', '1-a_svg.bin'),
     ('index.html', '1-index_html.bin'), ('a.png\0.php', '1-a_png_php.bin'), ('.png', '1-png.bin'), ('f.bin', '1-f.bin'), ('a.ｐｈｐ', '1-a.bin'), ('a.php%00.png', '1-a_php_00.png'),
 ]
-# A name as the sender gave it, and the one under which a browser is told to keep the file.
+# A name as the sender gave it, and the one under which the page has a browser keep the file.
 KEPT = [('a.phtml', 'a.phtml'), ('../../etc/passwd', 'passwd'), ('..\\x.exe', 'x.exe'), ('.htaccess', 'htaccess'), ('..', 'file'), ('', 'file'), ('猫.png', '猫.png')]
 
 SHORTENED = [
